@@ -1,0 +1,11 @@
+pub mod Names
+pub mod State
+pub mod Calls
+pub mod Causes
+pub mod ReadUpTo
+pub mod Bytes
+pub mod Tape
+pub mod Memory
+pub mod Numbered
+pub mod NoFault
+pub mod Real

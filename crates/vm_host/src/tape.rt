@@ -1,0 +1,82 @@
+// Bytes that are read from front to end.
+ghost use Rattle.std.specs.Prelude.{◌≡◌, ℕ, ◌≤◌, ◌<◌, ◌++◌, [], length, take, true, false};
+
+use std::marker::Model;
+
+/// Bytes, and a place among them.
+#[derive(Drop)]
+pub struct Tape {
+    bytes: Vec<u8>,
+    at: usize,
+}
+
+impl Model for Tape {
+    ghost use Rattle.std.specs.Prelude.{◌≤◌, length};
+    ghost use Rattle.vm_host.specs.Bytes.{Bytes};
+
+    ghost Value = { Bytes };
+
+    ghost use Rattle.vm_host.specs.Tape.{bytes_of};
+
+    ghost view = { bytes_of };
+
+    ghost invariant = { λ t. t.at ≤ length t.bytes.items };
+}
+
+impl Tape {
+    pub fn new(bytes: Vec<u8>) -> Self
+        ensures all { result.all ≡ bytes.items }
+        ensures rest { result.rest ≡ bytes.items }
+    {
+        Tape { bytes, at: 0 }
+    }
+
+    /// Goes back to the front.
+    pub fn rewind(&mut self)
+        ensures all { self.new.all ≡ self.old.all }
+        ensures rest { self.new.rest ≡ self.old.all }
+    {
+        self.at = 0;
+    }
+
+    /// Reads as many of the bytes that are left as fit.
+    pub fn read(&mut self, into: &mut [u8]) -> usize
+        ensures all { self.new.all ≡ self.old.all }
+        ensures bound { result ≤ length into.new }
+        ensures taken { self.old.rest ≡ take result into.new ++ self.new.rest }
+        ensures end { result ≡ 0 → 0 < length into.new → self.new.rest ≡ [] }
+    {
+        let left = &self.bytes[self.at..];
+        let count = into.len().min(left.len());
+        into[..count].copy_from_slice(&left[..count]);
+        self.at += count;
+        count
+    }
+}
+
+/// An input that may stand open.
+#[derive(Drop)]
+pub struct Reader {
+    pub is_open: bool,
+    pub tape: Tape,
+}
+
+impl Reader {
+    /// A closed input of these bytes.
+    pub fn new(bytes: Vec<u8>) -> Self
+        ensures { result ≡ record { is_open = false; tape = record { all = bytes.items; rest = bytes.items } } }
+    {
+        Reader {
+            is_open: false,
+            tape: Tape::new(bytes),
+        }
+    }
+
+    /// Opens the input at its front.
+    pub fn open(&mut self)
+        ensures { self.new ≡ record { is_open = true; tape = record { all = self.old.tape.all; rest = self.old.tape.all } } }
+    {
+        self.is_open = true;
+        self.tape.rewind();
+    }
+}
