@@ -1,0 +1,4 @@
+pub mod Loaded
+pub mod Elf
+pub mod Image
+pub mod Laws

@@ -1,0 +1,39 @@
+-- What a program's file puts into memory, and which of its words are the program's text.
+use Rattle.std.specs.Prelude.{ℕ, ◌+◌, ◌-◌, ◌%◌, List, [], ◌∷◌, length, drop, slice_index, Bool, ◌&&◌, ◌==◌, nat_le, nat_lt, Option, None, Some, if◌then◌else◌}
+use Rattle.byteorder.specs.Endian.{little_number}
+
+-- a loadable part of the file
+pub record Load : Type 0 where
+  pub address : ℕ
+  -- the bytes that the file gives from this address on
+  pub bytes : List ℕ
+  -- whether words of it may be executed
+  pub executable : Bool
+
+pub record Loaded : Type 0 where
+  pub entry : ℕ
+  pub loads : List Load
+
+-- the file gives a byte at this address
+abbrev pub gives : Load → ℕ → Bool
+gives load address = nat_le load.address address && nat_lt address (load.address + length load.bytes)
+
+abbrev pub byte_in : List Load → ℕ → ℕ
+byte_in [] address = 0
+byte_in (load ∷ rest) address =
+    if gives load address then slice_index load.bytes (address - load.address) else byte_in rest address
+
+-- the byte at an address, 0 where no load gives one
+abbrev pub byte_of : Loaded → ℕ → ℕ
+byte_of loaded address = byte_in loaded.loads address
+
+abbrev pub word_in : List Load → ℕ → Option ℕ
+word_in [] pc = None
+word_in (load ∷ rest) pc =
+    if load.executable && (gives load pc && gives load (pc + 3))
+    then Some (little_number 4 (drop (pc - load.address) load.bytes))
+    else word_in rest pc
+
+-- the text word at an address: the address is a multiple of 4, and the word's four bytes all lie in one executable load
+abbrev pub word_of : Loaded → ℕ → Option ℕ
+word_of loaded pc = if pc % 4 == 0 then word_in loaded.loads pc else None
