@@ -1,0 +1,7 @@
+// What follows from the definitions.
+ghost use Rattle.rv_run.specs.Laws.{RunEndIsOne};
+
+/// A run under a limit has one end: no two of ending, trapping and the limit hold of it, nor any of them twice.
+pub fn run_end_is_one()
+    ensures { RunEndIsOne }
+{}
