@@ -1,0 +1,116 @@
+-- What follows from the contract of the top call.
+use Rattle.std.proofs.Common.{◌≡◌, ℕ, ◌<◌, ◌≤◌, ◌^◌, List, length, None, Some, refl, sym, ap, ◌∙◌, inl, inr, arith, subst}
+use Rattle.std.specs.declared.option.Option.{Option}
+use Rattle.std.specs.Fmt.{decimal}
+use Rattle.std.proofs.lemmas.Fmt.{decimal_injective}
+use Rattle.vm_host.specs.declared.Slot.TheVariants.{Elf, Second}
+use Rattle.vm_host.specs.State.{HostState, then_more}
+use Rattle.vm_host.specs.Calls.{Rose}
+use Rattle.elf_image.specs.Loaded.{Loaded}
+use Rattle.elf_image.specs.Image.{HasImage}
+use Rattle.elf_image.proofs.Images.{image_is_one, refusal_is_one, refused_has_no_image}
+use Rattle.rv_run.specs.declared.outcome.RunEnd.TheVariants.{Ended}
+use Rattle.rv_run.specs.Run.{IsRunEnd}
+use Rattle.rv_run.proofs.Runs.{run_end_is_one}
+use Rattle.vm_tool.specs.declared.answer.Answer.{Answer}
+use Rattle.vm_tool.specs.declared.answer.Answer.TheVariants as answer
+use Rattle.vm_tool.specs.declared.answer.Status.{Status}
+use Rattle.vm_tool.specs.declared.answer.Status.TheVariants as status
+use Rattle.vm_tool.specs.Answer.{status_of, text_of}
+use Rattle.vm_tool.specs.Command.{Command, run, words_of, IsInLimits}
+use Rattle.vm_tool.specs.Files.{MAX_FILE, RefusesElf, RefusesHints}
+use Rattle.vm_tool.specs.RunCommand.{answer_of_end, RunEnds, RunAnswers, elf_refused, hints_refused, ended, RunSays}
+use Rattle.vm_tool.specs.Says.{Says}
+use Rattle.vm_tool.specs.Outcome.{Outcome, answered, fault, memory}
+use Rattle.vm_tool.specs.Laws.{MeaningIsOne, RunAnswerIsOne, IsAnswered, RunIsDetermined, RefusedElfIsSaid, RunIsComplete, FaultHasCause}
+use Rattle.vm_tool.proofs.Quiet.{told_is}
+
+same_command : (a b : Command) → IsInLimits a → IsInLimits b → words_of a ≡ words_of b → a ≡ b
+same_command (run elf hints steps) (run elf' hints' steps') h k e =
+    let d : decimal steps ≡ decimal steps' = cc in
+    let small : steps < 2 ^ 64 = omega arith in
+    let small' : steps' < 2 ^ 64 = omega arith in
+    let n : steps ≡ steps' = decimal_injective steps steps' small small' d in
+    cc
+
+pub meaning_is_one : MeaningIsOne
+meaning_is_one words None None a b = refl
+meaning_is_one words None (Some d) a b = absurd (a d b.1 b.0)
+meaning_is_one words (Some c) None a b = absurd (b c a.1 a.0)
+meaning_is_one words (Some c) (Some d) a b = ap Some (same_command c d a.1 b.1 (sym a.0 ∙ b.0))
+
+-- a refused file has no image, so nothing else is answered
+refused_alone : (elf : List ℕ) (found : Answer) (loaded : Loaded) → RefusesElf elf found → HasImage elf loaded → ⊥
+refused_alone elf found loaded r image = refused_has_no_image elf loaded r.error r.refused image
+
+long_alone : (hints : List ℕ) (found : Answer) → RefusesHints hints found → length hints ≤ MAX_FILE → ⊥
+long_alone hints found r short = omega (arith, r.long, short)
+
+ends_are_one : (elf hints : List ℕ) (limit : ℕ) (a b : Answer) → RunEnds elf hints limit a → RunEnds elf hints limit b → a ≡ b
+ends_are_one elf hints limit a b x y =
+    let loaded : x.loaded ≡ y.loaded = image_is_one elf x.loaded y.loaded x.image y.image in
+    let P : Loaded → Type 0 = λ l. IsRunEnd l hints limit x.end in
+    let end : x.end ≡ y.end = run_end_is_one y.loaded hints limit x.end y.end (subst P loaded x.ended) y.ended in
+    x.is ∙ ap (answer_of_end limit) end ∙ sym y.is
+
+pub run_answer_is_one : RunAnswerIsOne
+run_answer_is_one elf hints limit a b (elf_refused x) (elf_refused y) =
+    x.is ∙ ap answer.ElfRefused (refusal_is_one elf x.error y.error x.refused y.refused) ∙ sym y.is
+run_answer_is_one elf hints limit a b (elf_refused x) (hints_refused loaded image y) = absurd (refused_alone elf a loaded x image)
+run_answer_is_one elf hints limit a b (elf_refused x) (ended y) = absurd (refused_alone elf a y.loaded x y.image)
+run_answer_is_one elf hints limit a b (hints_refused loaded image x) (elf_refused y) = absurd (refused_alone elf b loaded y image)
+run_answer_is_one elf hints limit a b (hints_refused loaded image x) (hints_refused loaded' image' y) = x.is ∙ sym y.is
+run_answer_is_one elf hints limit a b (hints_refused loaded image x) (ended y) = absurd (long_alone hints a x y.short)
+run_answer_is_one elf hints limit a b (ended x) (elf_refused y) = absurd (refused_alone elf b x.loaded y x.image)
+run_answer_is_one elf hints limit a b (ended x) (hints_refused loaded image y) = absurd (long_alone hints b y x.short)
+run_answer_is_one elf hints limit a b (ended x) (ended y) = ends_are_one elf hints limit a b x y
+
+-- a call without a fault says the one answer that its words can have
+answered_by : (command : Option Command) (old new : HostState) (result : Status) (found : Answer) → Outcome command old new result → (Rose old.faults new.faults → ⊥) → ((other : Answer) → Says old.content command other → other ≡ found) → IsAnswered old new result found
+answered_by command old new result found (answered other says is text) quiet one =
+    let same = one other says in
+    inr (is ∙ ap status_of same, text ∙ ap (λ x. then_more old.said (text_of x)) same)
+answered_by command old new result found (fault is rose part) quiet one = absurd (quiet rose)
+answered_by command old new result found (memory is part) quiet one = inl is
+
+-- the answer over files that are told
+run_is : (told given : Option (List ℕ)) (e h : List ℕ) (steps : ℕ) (found other : Answer) → told ≡ Some e → given ≡ Some h → RunAnswers e h steps found → RunSays told given steps other → other ≡ found
+run_is told given e h steps found other p q is says =
+    let one : e ≡ says.elf_bytes = told_is told e says.elf_bytes p says.elf_told in
+    let two : h ≡ says.hint_bytes = told_is given h says.hint_bytes q says.hints_told in
+    run_answer_is_one e h steps other found (rw (one, two) says.is) is
+
+pub run_is_determined : RunIsDetermined
+run_is_determined old new result elf hints e h steps found a p q quiet is =
+    answered_by (Some (run elf hints steps)) old new result found a.outcome quiet
+    (λ other says. run_is (old.content Elf elf) (old.content Second hints) e h steps found other p q is says)
+
+pub refused_elf_is_said : RefusedElfIsSaid
+refused_elf_is_said old new result elf hints e steps error a p quiet refused =
+    answered_by (Some (run elf hints steps)) old new result (answer.ElfRefused error) a.outcome quiet
+    (λ other says.
+    let one : e ≡ says.elf_bytes = told_is (old.content Elf elf) e says.elf_bytes p says.elf_told in
+    let P : List ℕ → Type 0 = λ bytes. RefusesElf bytes (answer.ElfRefused error) in
+    let mine : RefusesElf says.elf_bytes (answer.ElfRefused error) = subst P one (record { error = error; refused = refused; is = refl }) in
+    run_answer_is_one says.elf_bytes says.hint_bytes steps other (answer.ElfRefused error) says.is (elf_refused mine))
+
+pub run_is_complete : RunIsComplete
+run_is_complete old new result elf hints e h shown limit steps code loaded a p q quiet image short within ends =
+    run_is_determined old new result elf hints e h limit (answer.Exit code shown steps) a p q quiet
+    (ended (record { loaded = loaded; image = image; short = short; end = Ended steps code shown; ended = (within, ends); is = refl }))
+
+no_fault_answer : (found : Answer) → status.HostFault ≡ status_of found → ⊥
+no_fault_answer answer.Words e = cc
+no_fault_answer (answer.ElfRefused refusal) e = cc
+no_fault_answer answer.HintLimit e = cc
+no_fault_answer (answer.Exit code public_bytes steps) e = cc
+no_fault_answer (answer.Trapped trap) e = cc
+no_fault_answer (answer.StepLimit limit) e = cc
+
+fault_is_counted : (command : Option Command) (old new : HostState) → Outcome command old new status.HostFault → Rose old.faults new.faults
+fault_is_counted command old new (answered found says is text) = absurd (no_fault_answer found is)
+fault_is_counted command old new (fault is rose part) = rose
+fault_is_counted command old new (memory is part) = absurd (cc (is))
+
+pub fault_has_cause : FaultHasCause
+fault_has_cause command old new a = fault_is_counted command old new a.outcome

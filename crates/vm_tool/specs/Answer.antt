@@ -1,0 +1,55 @@
+-- Which status an answer has, and the line that is said.
+use Rattle.std.specs.Prelude.{ℕ, List, ◌++◌, codes}
+use Rattle.std.specs.Fmt.{decimal}
+use Rattle.std.specs.Int.{w32, to_be_bytes}
+use Rattle.hex.specs.Hex.{encode_lower}
+use Rattle.elf_image.specs.declared.ImageError.{ImageError}
+use Rattle.elf_image.specs.declared.ImageError.TheVariants as image
+use Rattle.rv_run.specs.declared.outcome.Cause.{Cause}
+use Rattle.rv_run.specs.declared.outcome.Cause.TheVariants as cause
+use Rattle.vm_tool.specs.declared.answer.Answer.{Answer}
+use Rattle.vm_tool.specs.declared.answer.Answer.TheVariants as answer
+use Rattle.vm_tool.specs.declared.answer.Status.{Status}
+use Rattle.vm_tool.specs.declared.answer.Status.TheVariants as status
+
+-- a refusal of a program file, in words; want of memory is none, and is never said
+abbrev pub refusal_text : ImageError → List ℕ
+refusal_text image.NotBuilt = codes "not-built"
+refusal_text image.OutOfMemory = codes "out-of-memory"
+
+abbrev pub cause_text : Cause → List ℕ
+cause_text cause.NotBuilt = codes "not-built"
+
+abbrev pub status_of : Answer → Status
+status_of answer.Words = status.Words
+status_of (answer.ElfRefused refusal) = status.ElfRefused
+status_of answer.HintLimit = status.Limit
+status_of (answer.Exit code public_bytes steps) = status.Done
+status_of (answer.Trapped trap) = status.Trapped
+status_of (answer.StepLimit limit) = status.Limit
+
+-- 64 public bytes as 128 digits, with the exit code and the number of steps
+abbrev pub line_of_exit : ℕ → List ℕ → ℕ → List ℕ
+line_of_exit code digits steps =
+    codes "exit " ++ decimal code ++ codes " public " ++ digits ++ codes " steps " ++ decimal steps ++ codes "\n"
+
+-- the line that is said
+abbrev pub text_of : Answer → List ℕ
+text_of answer.Words = codes "words\n"
+text_of (answer.ElfRefused refusal) = codes "elf " ++ refusal_text refusal ++ codes "\n"
+text_of answer.HintLimit = codes "limit hints 67108864\n"
+text_of (answer.Exit code public_bytes steps) = line_of_exit code (encode_lower public_bytes) steps
+text_of (answer.Trapped trap) =
+    codes "trap " ++ cause_text trap.cause ++ codes " at " ++ encode_lower (to_be_bytes w32 trap.pc) ++ codes "\n"
+text_of (answer.StepLimit limit) = codes "limit steps " ++ decimal limit ++ codes "\n"
+
+-- the number that the process ends with
+abbrev pub code_of : Status → ℕ
+code_of status.Done = 0
+code_of status.Rejected = 1
+code_of status.Words = 2
+code_of status.ElfRefused = 3
+code_of status.HostFault = 4
+code_of status.Trapped = 5
+code_of status.Limit = 6
+code_of status.NoMemory = 7

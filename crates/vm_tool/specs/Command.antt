@@ -1,0 +1,26 @@
+-- The commands, each by the words that spell it.
+use Rattle.std.specs.Prelude.{◌≡◌, ◌≢◌, ℕ, ◌≤◌, List, [], ◌∷◌, codes, None, Some}
+use Rattle.std.specs.Fmt.{decimal}
+use Rattle.std.specs.declared.option.Option.{Option}
+use Rattle.vm_host.specs.declared.Place.{Place}
+use Rattle.vm_host.specs.declared.Place.TheVariants as place
+
+pub data Command : Type 0 where
+  -- run an ELF file on a hint file for at most this many steps
+  run : List ℕ → List ℕ → ℕ → Command
+
+-- the words of a command; a number is decimal digits, without sign or leading zero
+abbrev pub words_of : Command → List (List ℕ)
+words_of (run elf hints steps) = codes "run" ∷ elf ∷ hints ∷ decimal steps ∷ []
+
+abbrev pub IsInLimits : Command → Type 0
+IsInLimits (run elf hints steps) = steps ≤ 1000000000
+
+-- the words are this command, or none
+abbrev pub Means : List (List ℕ) → Option Command → Type 0
+Means words (Some command) = (words ≡ words_of command) × IsInLimits command
+Means words None = (command : Command) → IsInLimits command → words ≢ words_of command
+
+-- the names that are handed to the host, in order
+abbrev pub names_of : Command → List (Place × List ℕ)
+names_of (run elf hints steps) = (place.Elf, elf) ∷ (place.Second, hints) ∷ []

@@ -1,0 +1,62 @@
+-- What follows from the contract of the top call.
+use Rattle.std.specs.Prelude.{◌≡◌, ◌⊎◌, ℕ, ◌≤◌, List, length, Some, Option}
+use Rattle.vm_host.specs.declared.Slot.TheVariants.{Elf, Second}
+use Rattle.vm_host.specs.State.{HostState, then_more}
+use Rattle.vm_host.specs.Calls.{Rose}
+use Rattle.elf_image.specs.declared.ImageError.{ImageError}
+use Rattle.elf_image.specs.Loaded.{Loaded}
+use Rattle.elf_image.specs.Image.{HasImage, IsRefused}
+use Rattle.rv_run.specs.Run.{Ends}
+use Rattle.vm_tool.specs.declared.answer.Answer.{Answer}
+use Rattle.vm_tool.specs.declared.answer.Answer.TheVariants as answer
+use Rattle.vm_tool.specs.declared.answer.Status.{Status}
+use Rattle.vm_tool.specs.declared.answer.Status.TheVariants as status
+use Rattle.vm_tool.specs.Answer.{status_of, text_of}
+use Rattle.vm_tool.specs.Command.{Command, Means, run}
+use Rattle.vm_tool.specs.Files.{MAX_FILE}
+use Rattle.vm_tool.specs.RunCommand.{RunAnswers}
+use Rattle.vm_tool.specs.Outcome.{Answers}
+
+-- words have one meaning
+abbrev pub MeaningIsOne : Type 0
+MeaningIsOne = (words : List (List ℕ)) (a b : Option Command) → Means words a → Means words b → a ≡ b
+
+-- files have one answer
+abbrev pub RunAnswerIsOne : Type 0
+RunAnswerIsOne = (elf hints : List ℕ) (limit : ℕ) (a b : Answer) → RunAnswers elf hints limit a → RunAnswers elf hints limit b → a ≡ b
+
+-- the status is this answer's and its line is said, unless memory was refused
+abbrev pub IsAnswered : HostState → HostState → Status → Answer → Type 0
+IsAnswered old new result found = (result ≡ status.NoMemory) ⊎ ((result ≡ status_of found) × (new.said ≡ then_more old.said (text_of found)))
+
+-- where both files are told and no fault is counted, `run` gives the answer that the files have
+abbrev pub RunIsDetermined : Type 0
+RunIsDetermined = (old new : HostState) (result : Status) (elf hints elf_bytes hint_bytes : List ℕ) (steps : ℕ) (found : Answer)
+    → Answers (Some (run elf hints steps)) old new result
+    → old.content Elf elf ≡ Some elf_bytes → old.content Second hints ≡ Some hint_bytes
+    → (Rose old.faults new.faults → ⊥)
+    → RunAnswers elf_bytes hint_bytes steps found
+    → IsAnswered old new result found
+
+-- where an ELF file is told and refused, `run` says so, whatever the hint file is
+abbrev pub RefusedElfIsSaid : Type 0
+RefusedElfIsSaid = (old new : HostState) (result : Status) (elf hints elf_bytes : List ℕ) (steps : ℕ) (error : ImageError)
+    → Answers (Some (run elf hints steps)) old new result
+    → old.content Elf elf ≡ Some elf_bytes
+    → (Rose old.faults new.faults → ⊥)
+    → IsRefused elf_bytes error
+    → IsAnswered old new result (answer.ElfRefused error)
+
+-- where both files are told and no fault is counted, a run that ends within the limit is answered with its end
+abbrev pub RunIsComplete : Type 0
+RunIsComplete = (old new : HostState) (result : Status) (elf hints elf_bytes hint_bytes public_bytes : List ℕ) (limit steps code : ℕ) (loaded : Loaded)
+    → Answers (Some (run elf hints limit)) old new result
+    → old.content Elf elf ≡ Some elf_bytes → old.content Second hints ≡ Some hint_bytes
+    → (Rose old.faults new.faults → ⊥)
+    → HasImage elf_bytes loaded → length hint_bytes ≤ MAX_FILE
+    → steps ≤ limit → Ends loaded hint_bytes steps code public_bytes
+    → IsAnswered old new result (answer.Exit code public_bytes steps)
+
+-- a host's fault is answered only where the host counted one
+abbrev pub FaultHasCause : Type 0
+FaultHasCause = (command : Option Command) (old new : HostState) → Answers command old new status.HostFault → Rose old.faults new.faults

@@ -1,0 +1,10 @@
+pub mod Number
+pub mod Answer
+pub mod Command
+pub mod Form
+pub mod Files
+pub mod RunCommand
+pub mod Says
+pub mod Outcome
+pub mod ReadFile
+pub mod Laws

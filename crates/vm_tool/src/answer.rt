@@ -1,0 +1,131 @@
+// What the program answers: a status and a line.
+ghost use Rattle.std.specs.Prelude.{◌≡◌, IfOk, string_bytes};
+ghost use Rattle.vm_tool.specs.Answer.{status_of, text_of, refusal_text, cause_text, line_of_exit, code_of};
+
+use elf_image::ImageError;
+use rv_run::{Cause, Trap};
+use std::alloc::{AllocError, Global};
+
+/// How the program ends.
+#[derive(Clone, Copy, Debug, PartialEq, Eq)]
+pub enum Status {
+    Done,
+    /// A check found its tables wrong.
+    Rejected,
+    /// The words are no command.
+    Words,
+    ElfRefused,
+    /// A file or the standard output failed.
+    HostFault,
+    Trapped,
+    /// A limit was reached.
+    Limit,
+    NoMemory,
+}
+
+impl Status {
+    /// The number that the process ends with.
+    pub fn code(self) -> u8
+        ensures { result ≡ code_of self }
+    {
+        self as u8
+    }
+}
+
+/// What is found, before it is said.
+#[derive(Clone, Copy)]
+pub enum Answer {
+    /// The words are no command.
+    Words,
+    ElfRefused(ImageError),
+    /// The hint file is too long.
+    HintLimit,
+    /// The run ended by a terminate.
+    Exit {
+        code: u8,
+        public: [u8; 64],
+        steps: u64,
+    },
+    Trapped(Trap),
+    /// One step more than the limit went on.
+    StepLimit {
+        limit: u64,
+    },
+}
+
+/// Why the work ends early: an answer is found, or the host failed, or memory was refused.
+#[derive(Clone, Copy)]
+pub enum Halt {
+    Found(Answer),
+    Fault,
+    Memory,
+}
+
+impl Answer {
+    /// The status that the answer ends the program with.
+    pub fn status(&self) -> Status
+        ensures { result ≡ status_of self.now }
+    {
+        match self {
+            Answer::Words => Status::Words,
+            Answer::ElfRefused(_) => Status::ElfRefused,
+            Answer::HintLimit | Answer::StepLimit { .. } => Status::Limit,
+            Answer::Exit { .. } => Status::Done,
+            Answer::Trapped(_) => Status::Trapped,
+        }
+    }
+
+    /// The line, with its newline.
+    pub fn text(&self, alloc: Global) -> Result<String, AllocError>
+        ensures { IfOk result (λ text. string_bytes text ≡ text_of self.now) }
+    {
+        match self {
+            Answer::Words => String::from_str(alloc, "words\n"),
+            Answer::ElfRefused(refusal) => {
+                let refusal = refusal_name(*refusal);
+                format!(in alloc; "elf {refusal}\n")
+            }
+            Answer::HintLimit => String::from_str(alloc, "limit hints 67108864\n"),
+            Answer::Exit {
+                code,
+                public,
+                steps,
+            } => {
+                let digits = hex::encode(alloc, public.as_slice())?;
+                exit_line(alloc, *code, &digits, *steps)
+            }
+            Answer::Trapped(Trap { cause, pc }) => {
+                let digits = hex::encode(alloc, pc.to_be_bytes().as_slice())?;
+                let cause = cause_name(*cause);
+                format!(in alloc; "trap {cause} at {digits}\n")
+            }
+            Answer::StepLimit { limit } => format!(in alloc; "limit steps {limit}\n"),
+        }
+    }
+}
+
+fn refusal_name(refusal: ImageError) -> &'static str
+    ensures { result.now ≡ refusal_text refusal }
+{
+    match refusal {
+        ImageError::NotBuilt => "not-built",
+        ImageError::OutOfMemory => "out-of-memory",
+    }
+}
+
+fn cause_name(cause: Cause) -> &'static str
+    ensures { result.now ≡ cause_text cause }
+{
+    match cause {
+        Cause::NotBuilt => "not-built",
+    }
+}
+
+fn exit_line(alloc: Global, code: u8, digits: &str, steps: u64) -> Result<String, AllocError>
+    ensures { IfOk result (λ text. string_bytes text ≡ line_of_exit code digits.now steps) }
+{
+    let mut line = format!(in alloc; "exit {code} public {digits}")?;
+    let end = format!(in alloc; " steps {steps}\n")?;
+    line.push_str(&end)?;
+    Ok(line)
+}

@@ -1,0 +1,51 @@
+// The words of the command line.
+ghost use Rattle.std.specs.Prelude.{map, string_bytes, codes, ◌∷◌, []};
+ghost use Rattle.std.specs.Option.{option_map};
+ghost use Rattle.vm_tool.specs.Command.{Means};
+ghost use Rattle.vm_tool.specs.Form.{command_of};
+
+use crate::number::parse_number;
+
+const MAX_STEPS: u64 = 1_000_000_000;
+
+/// A command, as its words spell it.
+#[derive(Clone, Copy)]
+pub enum Form<'a> {
+    Run {
+        elf: &'a str,
+        hints: &'a str,
+        steps: u64,
+    },
+}
+
+/// Reads the words. `None` is for words that are no command.
+pub fn parse_words(words: &[String]) -> Option<Form<'_>>
+    ensures { Means (map string_bytes words.now) (option_map command_of result) }
+{
+    match words {
+        [name, first, second, third] => parse_four(
+            name.as_str(),
+            first.as_str(),
+            second.as_str(),
+            third.as_str(),
+        ),
+        _ => None,
+    }
+}
+
+fn parse_four<'a>(name: &str, first: &'a str, second: &'a str, third: &str) -> Option<Form<'a>>
+    ensures { Means (name.now ∷ first.now ∷ second.now ∷ third.now ∷ []) (option_map command_of result) }
+{
+    if name == "run" {
+        parse_run(first, second, third)
+    } else {
+        None
+    }
+}
+
+fn parse_run<'a>(elf: &'a str, hints: &'a str, steps: &str) -> Option<Form<'a>>
+    ensures { Means (codes "run" ∷ elf.now ∷ hints.now ∷ steps.now ∷ []) (option_map command_of result) }
+{
+    let steps = parse_number(steps, MAX_STEPS)?;
+    Some(Form::Run { elf, hints, steps })
+}

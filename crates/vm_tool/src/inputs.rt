@@ -1,0 +1,56 @@
+// The files that a command reads.
+ghost use Rattle.std.specs.Prelude.{◌≡◌, ◌≤◌, ◌<◌, ℕ, List, length};
+ghost use Rattle.vm_host.specs.declared.Slot.TheVariants.{Elf, Second};
+ghost use Rattle.elf_image.specs.Image.{HasImage};
+ghost use Rattle.vm_tool.specs.Files.{MAX_FILE, RefusesElf, RefusesHints};
+ghost use Rattle.vm_tool.specs.ReadFile.{Gives};
+
+use crate::answer::{Answer, Halt};
+use elf_image::{Image, ImageError, read_image};
+use std::alloc::Global;
+use vm_host::{Host, HostError, ReadError, Slot, read_up_to};
+
+const MAX_LENGTH: usize = 1 << 26;
+
+// Opens a file and reads it whole. A file that is too long has this answer.
+fn read_file<H: Host>(
+    alloc: Global,
+    slot: Slot,
+    name: &str,
+    long: Answer,
+    host: &mut H,
+) -> Result<Vec<u8>, Halt>
+    ensures { Gives (λ bytes v. (bytes ≡ v.items) × (length bytes ≤ MAX_FILE)) (λ bytes found. (MAX_FILE < length bytes) × (found ≡ long)) slot name.now (H.state host.old) (H.state host.new) result }
+{
+    match host.open_input(slot, name) {
+        Ok(()) => {}
+        Err(HostError::Failed) => return Err(Halt::Fault),
+        Err(HostError::OutOfMemory) => return Err(Halt::Memory),
+    }
+    match read_up_to(alloc, host, slot, MAX_LENGTH) {
+        Ok(bytes) => Ok(bytes),
+        Err(ReadError::TooLong) => Err(Halt::Found(long)),
+        Err(ReadError::Fault) => Err(Halt::Fault),
+        Err(ReadError::OutOfMemory) => Err(Halt::Memory),
+    }
+}
+
+/// Reads the ELF file, and its image.
+pub fn read_elf<H: Host>(alloc: Global, name: &str, host: &mut H) -> Result<Image, Halt>
+    ensures { Gives HasImage RefusesElf Elf name.now (H.state host.old) (H.state host.new) result }
+{
+    let long = Answer::ElfRefused(ImageError::NotBuilt);
+    let bytes = read_file(alloc, Slot::Elf, name, long, host)?;
+    match read_image(alloc, &bytes) {
+        Ok(image) => Ok(image),
+        Err(ImageError::OutOfMemory) => Err(Halt::Memory),
+        Err(refusal) => Err(Halt::Found(Answer::ElfRefused(refusal))),
+    }
+}
+
+/// Reads the hint file.
+pub fn read_hints<H: Host>(alloc: Global, name: &str, host: &mut H) -> Result<Vec<u8>, Halt>
+    ensures { Gives (λ bytes v. (bytes ≡ v.items) × (length bytes ≤ MAX_FILE)) RefusesHints Second name.now (H.state host.old) (H.state host.new) result }
+{
+    read_file(alloc, Slot::Second, name, Answer::HintLimit, host)
+}

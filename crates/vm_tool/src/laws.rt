@@ -1,0 +1,33 @@
+// What follows from the contract of the top call.
+ghost use Rattle.vm_tool.specs.Laws.{FaultHasCause, MeaningIsOne, RefusedElfIsSaid, RunAnswerIsOne, RunIsComplete, RunIsDetermined};
+
+/// Words are one command, or none.
+pub fn meaning_is_one()
+    ensures { MeaningIsOne }
+{}
+
+/// Two files have one answer.
+pub fn run_answer_is_one()
+    ensures { RunAnswerIsOne }
+{}
+
+/// Over a host that tells its files and counts no fault, `run` gives the answer that the files have,
+/// unless memory was refused.
+pub fn run_is_determined()
+    ensures { RunIsDetermined }
+{}
+
+/// A refused ELF file is said to be so, whatever the hint file is.
+pub fn refused_elf_is_said()
+    ensures { RefusedElfIsSaid }
+{}
+
+/// A run that ends within its limit is answered with its end.
+pub fn run_is_complete()
+    ensures { RunIsComplete }
+{}
+
+/// A host's fault is answered only where the host counted one.
+pub fn fault_has_cause()
+    ensures { FaultHasCause }
+{}

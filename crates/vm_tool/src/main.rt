@@ -1,0 +1,43 @@
+//! The program `openvm`: words in, one line and a status out.
+#![tactic(auto)]
+
+mod answer;
+mod command;
+mod inputs;
+mod laws;
+mod number;
+mod run_command;
+#[cfg(test)]
+mod tests;
+mod tool;
+
+pub use answer::{Answer, Status};
+pub use laws::{
+    fault_has_cause, meaning_is_one, refused_elf_is_said, run_answer_is_one, run_is_complete,
+    run_is_determined,
+};
+use std::alloc::AllocError;
+use std::process::ExitCode;
+use std::{env, io};
+pub use tool::openvm;
+use vm_host::RealHost;
+
+// The words after the program's name.
+fn words_of(rt: &HostRuntime) -> io::Result<Vec<String>> {
+    let mut words = Vec::new(rt.alloc());
+    for word in env::args(rt)?.skip(1) {
+        words.push(word).map_err(AllocError::from)?;
+    }
+    Ok(words)
+}
+
+fn main(rt: HostRuntime) -> ExitCode {
+    let status = match words_of(&rt) {
+        Ok(words) => openvm(rt.alloc(), &words, &mut RealHost::new(&rt)),
+        Err(error) => match error.kind() {
+            io::ErrorKind::OutOfMemory => Status::NoMemory,
+            _ => Status::HostFault,
+        },
+    };
+    ExitCode::from(status.code())
+}

@@ -1,0 +1,306 @@
+use crate::answer::Status;
+use crate::tool::openvm;
+use elf_image::{ImageError, read_image};
+use rv_decode::{AluOp, Instr};
+use rv_run::{Cause, RunEnd, State, Stepped, Trap, run};
+use std::alloc::{AllocError, Global};
+use std::process::Abort;
+use std::test::Fail;
+use vm_host::{MemoryHost, NamedFile, NoFaultHost};
+
+// ADDI x5, x0, 7; reveal x5 at 0(x0); terminate 0
+const PUBLIC_SEVEN: [u32; 3] = [0x0070_0293, 0x0002_A00B, 0x0000_000B];
+
+// The file whose one load is these words at address 0x1000.
+fn elf_of(alloc: Global, words: &[u32]) -> Result<Vec<u8>, AllocError> {
+    let size = (words.len() as u64).wrapping_mul(4).to_le_bytes();
+    let mut file = Vec::new(alloc);
+    file.extend_from_slice(b"\x7fELF\x01\x01\x01\0\0\0\0\0\0\0\0\0")?;
+    file.extend_from_slice(b"\x02\0\xf3\0\x01\0\0\0\0\x10\0\0\x34\0\0\0\0\0\0\0\0\0\0\0")?;
+    file.extend_from_slice(b"\x34\0\x20\0\x01\0\0\0\0\0\0\0")?;
+    file.extend_from_slice(b"\x01\0\0\0\x54\0\0\0\0\x10\0\0\0\x10\0\0")?;
+    file.extend_from_slice(&size[..4])?;
+    file.extend_from_slice(&size[..4])?;
+    file.extend_from_slice(b"\x05\0\0\0\x04\0\0\0")?;
+    for word in words {
+        file.extend_from_slice(&word.to_le_bytes())?;
+    }
+    Ok(file)
+}
+
+fn named(alloc: Global, name: &str, bytes: Vec<u8>) -> Result<NamedFile, AllocError> {
+    Ok(NamedFile {
+        name: String::from_str(alloc, name)?,
+        bytes,
+    })
+}
+
+// A host with this ELF file, an empty hint file, and calls that fail.
+fn host(alloc: Global, elf: Vec<u8>, failing: &[u64]) -> Result<MemoryHost, AllocError> {
+    let mut files = Vec::new(alloc);
+    files.push(named(alloc, "elf", elf)?)?;
+    files.push(named(alloc, "hints", Vec::new(alloc))?)?;
+    Ok(MemoryHost::new(alloc, files, failing.to_vec(alloc)?))
+}
+
+fn words_of(alloc: Global, line: &str) -> Result<Vec<String>, AllocError> {
+    let mut words = Vec::new(alloc);
+    for word in line.split(' ') {
+        words.push(String::from_str(alloc, word)?)?;
+    }
+    Ok(words)
+}
+
+fn says<R: Abort + AllocGlobal>(
+    rt: &R,
+    elf: Vec<u8>,
+    line: &str,
+    status: Status,
+    text: &str,
+) -> Result<(), Fail> {
+    let alloc = rt.alloc();
+    let mut host = host(alloc, elf, &[])?;
+    let answered = openvm(alloc, &words_of(alloc, line)?, &mut host);
+    assert_eq!(rt; answered, status, "{line}");
+    assert_eq!(rt; host.said(), text.as_bytes(), "{line}");
+    Ok(())
+}
+
+// The line of a run that ends, whose public bytes are these digits and then zeros.
+fn exit_line(alloc: Global, code: u8, digits: &str, steps: u64) -> Result<String, AllocError> {
+    format!(in alloc; "exit {code} public {digits:0<128} steps {steps}\n")
+}
+
+#[test]
+fn runs_that_end(rt: HostRuntime) -> Result<(), Fail> {
+    let alloc = rt.alloc();
+    let rows: [(&[u32], &str, u8, &str, u64); 7] = [
+        (&PUBLIC_SEVEN, "10", 0, "07", 2),
+        (&PUBLIC_SEVEN, "2", 0, "07", 2),
+        // terminate 7, and 255
+        (&[0x0070_000B], "0", 7, "", 0),
+        (&[0x0FF0_000B], "1000000000", 255, "", 0),
+        // LUI x5, 0x80000; ADDI x5, x5, -1; reveal x5 at 4(x0)
+        (
+            &[0x8000_02B7, 0xFFF2_8293, 0x0042_A00B, 0x0000_000B],
+            "3",
+            0,
+            "00000000ffffff7f",
+            3,
+        ),
+        // ADDI x0, x0, 5; ADDI x31, x0, -1; reveal x0 at 0(x0); reveal x31 at 12(x0)
+        (
+            &[
+                0x0050_0013,
+                0xFFF0_0F93,
+                0x0000_200B,
+                0x00CF_A00B,
+                0x0000_000B,
+            ],
+            "4",
+            0,
+            "000000000000000000000000ffffffff",
+            4,
+        ),
+        // ADDI x5, x0, 64; ADDI x6, x0, 9; reveal x6 at -64(x5), twice
+        (
+            &[
+                0x0400_0293,
+                0x0090_0313,
+                0xFC03_228B,
+                0xFC03_228B,
+                0x0010_000B,
+            ],
+            "99",
+            1,
+            "09",
+            4,
+        ),
+    ];
+    for (words, limit, code, digits, steps) in rows {
+        let line = format!(in alloc; "run elf hints {limit}")?;
+        let text = exit_line(alloc, code, digits, steps)?;
+        says(&rt, elf_of(alloc, words)?, &line, Status::Done, &text)?;
+    }
+    Ok(())
+}
+
+#[test]
+fn runs_that_stop(rt: HostRuntime) -> Result<(), Fail> {
+    let alloc = rt.alloc();
+    let rows: [(&[u32], &str, Status, &str); 8] = [
+        (&PUBLIC_SEVEN, "1", Status::Limit, "limit steps 1\n"),
+        (&PUBLIC_SEVEN, "0", Status::Limit, "limit steps 0\n"),
+        (
+            &[0xFFFF_FFFF],
+            "1",
+            Status::Trapped,
+            "trap not-built at 00001000\n",
+        ),
+        (
+            &[0xFFFF_FFFF],
+            "0",
+            Status::Trapped,
+            "trap not-built at 00001000\n",
+        ),
+        // a step beyond the text
+        (
+            &[0x0070_0293],
+            "9",
+            Status::Trapped,
+            "trap not-built at 00001004\n",
+        ),
+        // reveals of x5 at 64(x0), at 2(x0) and at -4(x0)
+        (
+            &[0x0402_A00B],
+            "9",
+            Status::Trapped,
+            "trap not-built at 00001000\n",
+        ),
+        (
+            &[0x0022_A00B],
+            "9",
+            Status::Trapped,
+            "trap not-built at 00001000\n",
+        ),
+        (
+            &[0xFFC2_A00B],
+            "9",
+            Status::Trapped,
+            "trap not-built at 00001000\n",
+        ),
+    ];
+    for (words, limit, status, text) in rows {
+        let line = format!(in alloc; "run elf hints {limit}")?;
+        says(&rt, elf_of(alloc, words)?, &line, status, text)?;
+    }
+    Ok(())
+}
+
+#[test]
+fn refused_words(rt: HostRuntime) -> Result<(), Fail> {
+    let alloc = rt.alloc();
+    let rows = [
+        "run a b 01",
+        "run a b +1",
+        "run a b ",
+        "run a b 1000000001",
+        "run a b 18446744073709551616",
+        "run a b 1 2",
+        "run a b",
+        "run",
+        "",
+        "Run a b 1",
+        "check a b",
+    ];
+    for line in rows {
+        says(
+            &rt,
+            elf_of(alloc, &PUBLIC_SEVEN)?,
+            line,
+            Status::Words,
+            "words\n",
+        )?;
+    }
+    Ok(())
+}
+
+#[test]
+fn refused_files(rt: HostRuntime) -> Result<(), Fail> {
+    let alloc = rt.alloc();
+    let mut short = elf_of(alloc, &PUBLIC_SEVEN)?;
+    short.pop();
+    let mut long = elf_of(alloc, &PUBLIC_SEVEN)?;
+    long.push(0)?;
+    let mut flagged = elf_of(alloc, &PUBLIC_SEVEN)?;
+    assert_eq!(rt; flagged.len(), 96);
+    flagged[36] = 1;
+    let no_words = elf_of(alloc, &[])?;
+    for file in [short, long, flagged, no_words, Vec::new(alloc)] {
+        says(
+            &rt,
+            file,
+            "run elf hints 10",
+            Status::ElfRefused,
+            "elf not-built\n",
+        )?;
+    }
+    let elf = elf_of(alloc, &PUBLIC_SEVEN)?;
+    says(&rt, elf, "run missing hints 10", Status::HostFault, "")?;
+    let elf = elf_of(alloc, &PUBLIC_SEVEN)?;
+    says(&rt, elf, "run elf missing 10", Status::HostFault, "")
+}
+
+// Each call of the host fails in turn. There are six before the line is said: to open each file, to
+// read it, and to find its end.
+#[test]
+fn each_call_fails(rt: HostRuntime) -> Result<(), Fail> {
+    let alloc = rt.alloc();
+    let words = words_of(alloc, "run elf hints 10")?;
+    for number in 0..8 {
+        let mut host = host(alloc, elf_of(alloc, &PUBLIC_SEVEN)?, &[number])?;
+        let status = openvm(alloc, &words, &mut host);
+        let last = number > 5;
+        assert_eq!(rt; status == Status::Done, last, "{number}");
+        assert_eq!(rt; status == Status::HostFault, !last, "{number}");
+        assert_eq!(rt; host.said().is_empty(), !last, "{number}");
+    }
+    Ok(())
+}
+
+#[test]
+fn too_many_hints(rt: HostRuntime) -> Result<(), Fail> {
+    let alloc = rt.alloc();
+    let words = words_of(alloc, "run any other 10")?;
+    for (length, status) in [(67_108_864, Status::Done), (67_108_865, Status::Limit)] {
+        let hints = vec![in alloc; 0; length]?;
+        let mut host = NoFaultHost::new(alloc, elf_of(alloc, &PUBLIC_SEVEN)?, hints);
+        assert_eq!(rt; openvm(alloc, &words, &mut host), status);
+        let limit = b"limit hints 67108864\n";
+        assert_eq!(rt; host.said() == limit.as_slice(), status == Status::Limit);
+    }
+    Ok(())
+}
+
+#[test]
+fn machine_by_steps(rt: HostRuntime) -> Result<(), Fail> {
+    let alloc = rt.alloc();
+    let file = elf_of(alloc, &PUBLIC_SEVEN)?;
+    let image = read_image(alloc, &file)?;
+    assert_eq!(rt; image.entry(), 0x1000);
+    assert_eq!(rt; image.word_at(0x1004), Some(0x0002_A00B));
+    assert_eq!(rt; image.word_at(0x1005), None);
+    assert_eq!(rt; image.word_at(0x0FFC), None);
+    assert_eq!(rt; image.word_at(0x100C), None);
+    assert_eq!(rt;
+        [image.byte(0x0FFF), image.byte(0x1000), image.byte(0x100B)],
+        [0, 0x93, 0]
+    );
+
+    let mut state = State::load(alloc, &image, [5, 6].to_vec(alloc)?)?;
+    let addi = Instr::AluImm {
+        op: AluOp::Add,
+        rd: 5,
+        rs1: 0,
+        imm: 7,
+    };
+    assert_eq!(rt; state.next_instr(), Some(addi));
+    assert_eq!(rt; state.step()?, Stepped::Went);
+    assert_eq!(rt; [state.pc(), state.register(5)], [0x1004, 7]);
+    assert_eq!(rt; state.step()?, Stepped::Went);
+    assert_eq!(rt; state.step()?, Stepped::Ended(0));
+    assert_eq!(rt; state.pc(), 0x1008);
+    assert_eq!(rt; state.byte(0x1000), 0x93);
+    assert_eq!(rt; state.public()[0], 7);
+    assert_eq!(rt; state.hints_left(), [5, 6].as_slice());
+
+    let trap = Trap {
+        cause: Cause::NotBuilt,
+        pc: 0x1000,
+    };
+    let broken = read_image(alloc, &elf_of(alloc, &[0])?)?;
+    let end = run(alloc, &broken, Vec::new(alloc), 0)?;
+    assert_eq!(rt; end, RunEnd::Trapped { steps: 0, trap });
+    assert!(rt; read_image(alloc, b"").err() == Some(ImageError::NotBuilt));
+    Ok(())
+}

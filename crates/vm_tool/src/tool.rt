@@ -1,0 +1,63 @@
+// The top call.
+ghost use Rattle.std.specs.Prelude.{◌≡◌, map, string_bytes, Option};
+ghost use Rattle.std.specs.Option.{option_map};
+ghost use Rattle.vm_tool.specs.Command.{Command, Means};
+ghost use Rattle.vm_tool.specs.Form.{command_of};
+ghost use Rattle.vm_tool.specs.Outcome.{Answers, Finds, Speaks, halt_of};
+
+use crate::answer::{Answer, Halt, Status};
+use crate::command::{Form, parse_words};
+use crate::run_command::find_run;
+use std::alloc::Global;
+use vm_host::{Host, HostError};
+
+/// Does what the words say, and answers the status. The words are those after the program's name.
+pub fn openvm<H: Host>(alloc: Global, words: &[String], host: &mut H) -> Status
+    ensures { (command : Option Command) × Means (map string_bytes words.now) command × Answers command (H.state host.old) (H.state host.new) result }
+{
+    perform(alloc, parse_words(words), host)
+}
+
+// Finds the answer to a form, and says it.
+fn perform<H: Host>(alloc: Global, form: Option<Form>, host: &mut H) -> Status
+    ensures { Answers (option_map command_of form.entry) (H.state host.old) (H.state host.new) result }
+{
+    match find(alloc, form, host) {
+        Halt::Found(answer) => say(alloc, &answer, host),
+        Halt::Fault => Status::HostFault,
+        Halt::Memory => Status::NoMemory,
+    }
+}
+
+// Finds the answer, before anything is said.
+fn find<H: Host>(alloc: Global, form: Option<Form>, host: &mut H) -> Halt
+    ensures { Finds (option_map command_of form.entry) (H.state host.old) (H.state host.new) result }
+{
+    match form {
+        None => Halt::Found(Answer::Words),
+        Some(Form::Run { elf, hints, steps }) => halt(find_run(alloc, elf, hints, steps, host)),
+    }
+}
+
+fn halt(found: Result<Answer, Halt>) -> Halt
+    ensures { result ≡ halt_of found }
+{
+    match found {
+        Ok(answer) => Halt::Found(answer),
+        Err(halt) => halt,
+    }
+}
+
+// Says the answer's line.
+fn say<H: Host>(alloc: Global, answer: &Answer, host: &mut H) -> Status
+    ensures { Speaks answer.now (H.state host.old) (H.state host.new) result }
+{
+    let Ok(text) = answer.text(alloc) else {
+        return Status::NoMemory;
+    };
+    match host.say(text.as_bytes()) {
+        Ok(()) => answer.status(),
+        Err(HostError::Failed) => Status::HostFault,
+        Err(HostError::OutOfMemory) => Status::NoMemory,
+    }
+}
