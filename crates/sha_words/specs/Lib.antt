@@ -1,0 +1,3 @@
+pub mod Sha256
+pub mod Roots
+pub mod Laws

@@ -1,0 +1,5 @@
+pub mod Prime
+pub mod Ring
+pub mod Inverse
+pub mod Lift
+pub mod Constraints
