@@ -2,10 +2,9 @@
 -- reveal, terminate and the traps are this project's own.
 use Rattle.std.specs.Prelude.{ℕ, ◌+◌, ◌%◌, ◌^◌, ◌++◌, take, drop, slice_index, slice_set, Bool, ◌&&◌, ◌==◌, nat_lt, Option, None, Some, if◌then◌else◌}
 use Rattle.byteorder.specs.Endian.{little_bytes}
-use Rattle.rv_decode.specs.declared.Instr.{Instr}
-use Rattle.rv_decode.specs.declared.Instr.TheVariants.{Lui, AluImm, Terminate, Reveal}
-use Rattle.rv_decode.specs.declared.AluOp.{AluOp}
-use Rattle.rv_decode.specs.declared.AluOp.TheVariants.{Add}
+use Rattle.rv_decode.specs.declared.instr.Instr.{Instr}
+use Rattle.rv_decode.specs.declared.instr.Instr.TheVariants.{Lui, AluImm, Terminate, Reveal}
+use Rattle.rv_decode.specs.declared.instr.AluOp.TheVariants.{Add}
 use Rattle.rv_decode.specs.Listing.{decode_of}
 use Rattle.elf_image.specs.Loaded.{Loaded, word_of}
 use Rattle.rv_run.specs.declared.outcome.Cause.{Cause}
@@ -40,27 +39,28 @@ make_public place word m = record m {
   public_bytes = take place m.public_bytes ++ (little_bytes 4 word ++ drop (place + 4) m.public_bytes);
 }
 
-abbrev pub alu : AluOp → ℕ → ℕ → ℕ
-alu Add a b = word_sum a b
-
 -- a place of a word in the public bytes
 abbrev pub is_public_place : ℕ → Bool
 is_public_place place = (place % 4 == 0) && nat_lt place 64
 
+abbrev pub trap_at : Machine → Cause → Next
+trap_at m cause = traps (record { cause = cause; pc = m.pc })
+
 -- what keeps an instruction from being done, if something does
 abbrev pub obstacle : Machine → Instr → Option Cause
+obstacle m (Lui rd imm) = None
+obstacle m (AluImm Add rd rs1 imm) = None
+obstacle m (Terminate code) = None
 obstacle m (Reveal base rs1 imm) = if is_public_place (word_sum (register m base) imm) then None else Some NotBuilt
-obstacle m _ = None
+obstacle m _ = Some NotBuilt
 
 -- what an instruction does where nothing keeps it from it
 abbrev pub performed : Machine → Instr → Next
 performed m (Lui rd imm) = goes (goes_on (put rd imm m))
-performed m (AluImm op rd rs1 imm) = goes (goes_on (put rd (alu op (register m rs1) imm) m))
+performed m (AluImm Add rd rs1 imm) = goes (goes_on (put rd (word_sum (register m rs1) imm) m))
 performed m (Terminate code) = ends code
 performed m (Reveal base rs1 imm) = goes (goes_on (make_public (word_sum (register m base) imm) (register m rs1) m))
-
-abbrev pub trap_at : Machine → Cause → Next
-trap_at m cause = traps (record { cause = cause; pc = m.pc })
+performed m _ = trap_at m NotBuilt
 
 abbrev pub unless : Machine → Option Cause → Next → Next
 unless m (Some cause) next = trap_at m cause

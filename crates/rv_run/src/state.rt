@@ -1,7 +1,8 @@
 // The state of the machine, and one step of it.
-ghost use Rattle.std.specs.Prelude.{◌≡◌, ◌<◌, ◌%◌, ℕ, IfOk, OnErr, slice_index, length};
+ghost use Rattle.std.specs.Prelude.{◌≡◌, ◌<◌, ◌%◌, ℕ, IfOk, IfSome, OnErr, slice_index};
 ghost use Rattle.elf_image.specs.Loaded.{byte_of, word_of};
 ghost use Rattle.rv_decode.specs.Listing.{decode_of};
+ghost use Rattle.rv_decode.specs.Ranges.{HasFieldsInRange};
 ghost use Rattle.rv_run.specs.Machine.{start};
 ghost use Rattle.rv_run.specs.Step.{goes_on, put as put_word, make_public};
 ghost use Rattle.rv_run.specs.State.{machine_of, IsStep};
@@ -74,7 +75,8 @@ impl<'a> State<'a> {
 
     /// The instruction at the pc, `None` where no text word stands there or it doesn't decode.
     pub fn next_instr(&self) -> Option<Instr>
-        ensures { result ≡ option_and_then decode_of (word_of self.now.image.now self.now.pc) }
+        ensures listed { result ≡ option_and_then decode_of (word_of self.now.image.now self.now.pc) }
+        ensures ranged { IfSome result HasFieldsInRange }
     {
         decode(self.image.word_at(self.pc)?)
     }
@@ -111,6 +113,7 @@ impl<'a> State<'a> {
                 self.reveal(place as usize, self.register(rs1));
                 Ok(Stepped::Went)
             }
+            Some(_) => Ok(self.trap(Cause::NotBuilt)),
         }
     }
 
