@@ -10,7 +10,7 @@ use Rattle.rv_run.specs.Run.{Goes}
 use Rattle.rv_run.specs.declared.outcome.Stepped.{Stepped}
 use Rattle.rv_run.specs.declared.outcome.Stepped.TheVariants.{Went}
 use Rattle.rv_run.specs.declared.state.State.{State}
-use Rattle.rv_run.specs.State.{machine_of, IsStep}
+use Rattle.rv_run.specs.State.{machine_of, program_of, IsStep}
 use Rattle.rv_run.specs.Laws.{RunEndIsOne}
 
 -- one more step
@@ -18,10 +18,10 @@ pub goes_more : (loaded : Loaded) (hints : List ℕ) (n : ℕ) (m next : Machine
 goes_more loaded hints n m next reached went = rw (add-one n) (m, reached, went)
 
 -- one more step, as it is seen from the state that is kept
-pub goes_by_step : (loaded : Loaded) (hints : List ℕ) (n : ℕ) (old new : State) (done : Stepped) → Goes loaded hints n (machine_of old) → old.image.now ≡ loaded → IsStep old.image.now (machine_of old) (machine_of new) done → done ≡ Went → Goes loaded hints (n + 1) (machine_of new)
+pub goes_by_step : (loaded : Loaded) (hints : List ℕ) (n : ℕ) (old new : State) (done : Stepped) → Goes loaded hints n (machine_of old) → program_of old ≡ loaded → IsStep (program_of old) (machine_of old) (machine_of new) done → done ≡ Went → Goes loaded hints (n + 1) (machine_of new)
 goes_by_step loaded hints n old new done reached same step went =
-    let P : Stepped → Type 0 = λ d. IsStep old.image.now (machine_of old) (machine_of new) d in
-    let on : step_of old.image.now (machine_of old) ≡ goes (machine_of new) = subst P went step in
+    let P : Stepped → Type 0 = λ d. IsStep (program_of old) (machine_of old) (machine_of new) d in
+    let on : step_of (program_of old) (machine_of old) ≡ goes (machine_of new) = subst P went step in
     goes_more loaded hints n (machine_of old) (machine_of new) reached (ap (λ l. step_of l (machine_of old)) (sym same) ∙ on)
 
 -- the state after n steps is one

@@ -1,4 +1,7 @@
 pub mod Machine
+pub mod Memory
+pub mod Pages
+pub mod Hints
 pub mod Step
 pub mod Run
 pub mod State

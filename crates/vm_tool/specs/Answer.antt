@@ -18,7 +18,13 @@ refusal_text image.NotBuilt = codes "not-built"
 refusal_text image.OutOfMemory = codes "out-of-memory"
 
 abbrev pub cause_text : Cause → List ℕ
-cause_text cause.NotBuilt = codes "not-built"
+cause_text cause.NotText = codes "not-text"
+cause_text cause.Undecoded = codes "undecoded"
+cause_text cause.MisalignedTarget = codes "misaligned-target"
+cause_text cause.Misaligned = codes "misaligned"
+cause_text cause.OutOfRange = codes "out-of-range"
+cause_text cause.HintsEnd = codes "hints-end"
+cause_text cause.PublicIndex = codes "public-index"
 
 abbrev pub status_of : Answer → Status
 status_of answer.Words = status.Words

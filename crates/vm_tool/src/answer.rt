@@ -117,7 +117,13 @@ fn cause_name(cause: Cause) -> &'static str
     ensures { result.now ≡ cause_text cause }
 {
     match cause {
-        Cause::NotBuilt => "not-built",
+        Cause::NotText => "not-text",
+        Cause::Undecoded => "undecoded",
+        Cause::MisalignedTarget => "misaligned-target",
+        Cause::Misaligned => "misaligned",
+        Cause::OutOfRange => "out-of-range",
+        Cause::HintsEnd => "hints-end",
+        Cause::PublicIndex => "public-index",
     }
 }
 

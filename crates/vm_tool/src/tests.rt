@@ -1,3 +1,5 @@
+mod instructions;
+
 use crate::answer::Status;
 use crate::tool::openvm;
 use elf_image::{ImageError, read_image};
@@ -35,11 +37,14 @@ fn named(alloc: Global, name: &str, bytes: Vec<u8>) -> Result<NamedFile, AllocEr
     })
 }
 
-// A host with this ELF file, an empty hint file, and calls that fail.
+// A host with this ELF file, an empty hint file and one of twelve bytes, and calls that fail.
 fn host(alloc: Global, elf: Vec<u8>, failing: &[u64]) -> Result<MemoryHost, AllocError> {
+    let twelve = [1, 2, 3, 4, 5, 6, 7, 8, 9, 10, 11, 12];
     let mut files = Vec::new(alloc);
     files.push(named(alloc, "elf", elf)?)?;
     files.push(named(alloc, "hints", Vec::new(alloc))?)?;
+    files.push(named(alloc, "four", twelve[..4].to_vec(alloc)?)?)?;
+    files.push(named(alloc, "twelve", twelve.to_vec(alloc)?)?)?;
     Ok(MemoryHost::new(alloc, files, failing.to_vec(alloc)?))
 }
 
@@ -74,16 +79,17 @@ fn exit_line(alloc: Global, code: u8, digits: &str, steps: u64) -> Result<String
 #[test]
 fn runs_that_end(rt: HostRuntime) -> Result<(), Fail> {
     let alloc = rt.alloc();
-    let rows: [(&[u32], &str, u8, &str, u64); 7] = [
-        (&PUBLIC_SEVEN, "10", 0, "07", 2),
-        (&PUBLIC_SEVEN, "2", 0, "07", 2),
+    // words; hint file and limit; exit code, public digits before zeros, steps
+    let rows: [(&[u32], &str, u8, &str, u64); 15] = [
+        (&PUBLIC_SEVEN, "hints 10", 0, "07", 2),
+        (&PUBLIC_SEVEN, "hints 2", 0, "07", 2),
         // terminate 7, and 255
-        (&[0x0070_000B], "0", 7, "", 0),
-        (&[0x0FF0_000B], "1000000000", 255, "", 0),
+        (&[0x0070_000B], "hints 0", 7, "", 0),
+        (&[0x0FF0_000B], "hints 1000000000", 255, "", 0),
         // LUI x5, 0x80000; ADDI x5, x5, -1; reveal x5 at 4(x0)
         (
             &[0x8000_02B7, 0xFFF2_8293, 0x0042_A00B, 0x0000_000B],
-            "3",
+            "hints 3",
             0,
             "00000000ffffff7f",
             3,
@@ -97,7 +103,7 @@ fn runs_that_end(rt: HostRuntime) -> Result<(), Fail> {
                 0x00CF_A00B,
                 0x0000_000B,
             ],
-            "4",
+            "hints 4",
             0,
             "000000000000000000000000ffffffff",
             4,
@@ -111,14 +117,115 @@ fn runs_that_end(rt: HostRuntime) -> Result<(), Fail> {
                 0xFC03_228B,
                 0x0010_000B,
             ],
-            "99",
+            "hints 99",
             1,
             "09",
             4,
         ),
+        // DIV and REM of 80000000 by FFFFFFFF, then by 0
+        (
+            &[
+                0x8000_02B7,
+                0xFFF0_0313,
+                0x0262_C3B3,
+                0x0262_E433,
+                0x0202_C4B3,
+                0x0202_E533,
+                0x0003_A00B,
+                0x0044_200B,
+                0x0084_A00B,
+                0x00C5_200B,
+                0x0000_000B,
+            ],
+            "hints 100",
+            0,
+            "0000008000000000ffffffff00000080",
+            10,
+        ),
+        // MULH, MULHSU and MULHU of FFFFFFFF by itself
+        (
+            &[
+                0xFFF0_0293,
+                0x0252_9333,
+                0x0252_A3B3,
+                0x0252_B433,
+                0x0003_200B,
+                0x0043_A00B,
+                0x0084_200B,
+                0x0000_000B,
+            ],
+            "hints 100",
+            0,
+            "00000000fffffffffeffffff",
+            7,
+        ),
+        // SRA by 31, SLL by 32
+        (
+            &[
+                0x8000_02B7,
+                0x01F0_0313,
+                0x4062_D3B3,
+                0x0200_0313,
+                0x0062_9433,
+                0x0003_A00B,
+                0x0044_200B,
+                0x0000_000B,
+            ],
+            "hints 100",
+            0,
+            "ffffffff00000080",
+            7,
+        ),
+        // LB at 1FFFFFFF; LW x0 at 0
+        (
+            &[0x2000_02B7, 0xFFF2_8303, 0x0000_000B],
+            "hints 9",
+            0,
+            "",
+            2,
+        ),
+        (&[0x0000_2003, 0x0000_000B], "hints 100", 0, "", 1),
+        // a store of 0 over the third word: the old instruction runs, and the load reads 0
+        (
+            &[
+                0x0000_12B7,
+                0x0002_A423,
+                0x0090_0313,
+                0x0082_A383,
+                0x0003_200B,
+                0x0043_A00B,
+                0x0000_000B,
+            ],
+            "hints 100",
+            0,
+            "09",
+            6,
+        ),
+        // two hint stores
+        (
+            &[0x0000_22B7, 0x0000_128B, 0x0040_128B, 0x0000_000B],
+            "twelve 100",
+            0,
+            "",
+            3,
+        ),
+        // a hint store, and the word that it stored
+        (
+            &[
+                0x0000_22B7,
+                0x0000_128B,
+                0x0002_A303,
+                0x0003_200B,
+                0x0000_000B,
+            ],
+            "four 100",
+            0,
+            "01020304",
+            4,
+        ),
     ];
-    for (words, limit, code, digits, steps) in rows {
-        let line = format!(in alloc; "run elf hints {limit}")?;
+    for (words, rest, code, digits, steps) in rows {
+        let line = format!(in alloc; "run elf {rest}")?;
         let text = exit_line(alloc, code, digits, steps)?;
         says(&rt, elf_of(alloc, words)?, &line, Status::Done, &text)?;
     }
@@ -128,51 +235,169 @@ fn runs_that_end(rt: HostRuntime) -> Result<(), Fail> {
 #[test]
 fn runs_that_stop(rt: HostRuntime) -> Result<(), Fail> {
     let alloc = rt.alloc();
-    let rows: [(&[u32], &str, Status, &str); 8] = [
-        (&PUBLIC_SEVEN, "1", Status::Limit, "limit steps 1\n"),
-        (&PUBLIC_SEVEN, "0", Status::Limit, "limit steps 0\n"),
+    let rows: [(&[u32], &str, Status, &str); 26] = [
+        (&PUBLIC_SEVEN, "hints 1", Status::Limit, "limit steps 1"),
+        (&PUBLIC_SEVEN, "hints 0", Status::Limit, "limit steps 0"),
+        // a jump to itself
         (
-            &[0xFFFF_FFFF],
-            "1",
-            Status::Trapped,
-            "trap not-built at 00001000\n",
+            &[0x0000_006F],
+            "hints 100",
+            Status::Limit,
+            "limit steps 100",
         ),
         (
             &[0xFFFF_FFFF],
-            "0",
+            "hints 1",
             Status::Trapped,
-            "trap not-built at 00001000\n",
+            "trap undecoded at 00001000",
         ),
-        // a step beyond the text
+        (
+            &[0xFFFF_FFFF],
+            "hints 0",
+            Status::Trapped,
+            "trap undecoded at 00001000",
+        ),
+        // a word that compilers write for a trap
+        (
+            &[0xC000_1073],
+            "hints 9",
+            Status::Trapped,
+            "trap undecoded at 00001000",
+        ),
+        // a step beyond the text, and a jump
         (
             &[0x0070_0293],
-            "9",
+            "hints 9",
             Status::Trapped,
-            "trap not-built at 00001004\n",
+            "trap not-text at 00001004",
+        ),
+        (
+            &[0x0080_006F, 0x0000_000B],
+            "hints 9",
+            Status::Trapped,
+            "trap not-text at 00001008",
+        ),
+        // JALR to 1002, JAL by 2, and a branch by 2 that is taken
+        (
+            &[0x0000_12B7, 0x0022_8067],
+            "hints 9",
+            Status::Trapped,
+            "trap misaligned-target at 00001004",
+        ),
+        (
+            &[0x0020_006F],
+            "hints 9",
+            Status::Trapped,
+            "trap misaligned-target at 00001000",
+        ),
+        (
+            &[0x0000_0163],
+            "hints 9",
+            Status::Trapped,
+            "trap misaligned-target at 00001000",
+        ),
+        // LW at 1, LH at 1FFFFFFF, LW and SW at 20000000
+        (
+            &[0x0010_2003, 0x0000_000B],
+            "hints 9",
+            Status::Trapped,
+            "trap misaligned at 00001000",
+        ),
+        (
+            &[0x2000_02B7, 0xFFF2_9303],
+            "hints 9",
+            Status::Trapped,
+            "trap misaligned at 00001004",
+        ),
+        (
+            &[0x2000_02B7, 0x0002_A303],
+            "hints 9",
+            Status::Trapped,
+            "trap out-of-range at 00001004",
+        ),
+        (
+            &[0x2000_02B7, 0x0002_A023],
+            "hints 9",
+            Status::Trapped,
+            "trap out-of-range at 00001004",
+        ),
+        // LW at 20000001, which is both
+        (
+            &[0x2000_02B7, 0x0012_A303],
+            "hints 9",
+            Status::Trapped,
+            "trap misaligned at 00001004",
+        ),
+        // the second of two hint stores with four bytes
+        (
+            &[0x0000_22B7, 0x0000_128B, 0x0040_128B, 0x0000_000B],
+            "four 9",
+            Status::Trapped,
+            "trap hints-end at 00001008",
+        ),
+        // a hint store without hints at 1, and at 20000000
+        (
+            &[0x0010_100B],
+            "hints 9",
+            Status::Trapped,
+            "trap misaligned at 00001000",
+        ),
+        (
+            &[0x2000_02B7, 0x0000_128B],
+            "hints 9",
+            Status::Trapped,
+            "trap out-of-range at 00001004",
         ),
         // reveals of x5 at 64(x0), at 2(x0) and at -4(x0)
         (
             &[0x0402_A00B],
-            "9",
+            "hints 9",
             Status::Trapped,
-            "trap not-built at 00001000\n",
+            "trap public-index at 00001000",
         ),
         (
             &[0x0022_A00B],
-            "9",
+            "hints 9",
             Status::Trapped,
-            "trap not-built at 00001000\n",
+            "trap public-index at 00001000",
         ),
         (
             &[0xFFC2_A00B],
-            "9",
+            "hints 9",
             Status::Trapped,
-            "trap not-built at 00001000\n",
+            "trap public-index at 00001000",
+        ),
+        // ADDI x5, x0, 2 and a SHA block: a state at 2; a block at 2 with a state at 20000000
+        (
+            &[0x0020_0293, 0x0200_428B],
+            "hints 9",
+            Status::Trapped,
+            "trap misaligned at 00001004",
+        ),
+        (
+            &[0x0020_0293, 0x2000_0337, 0x0202_C30B],
+            "hints 9",
+            Status::Trapped,
+            "trap misaligned at 00001008",
+        ),
+        // a state at 1FFFFFE4, and a block at 1FFFFFC4
+        (
+            &[0x2000_02B7, 0xFE42_8293, 0x0200_428B],
+            "hints 9",
+            Status::Trapped,
+            "trap out-of-range at 00001008",
+        ),
+        (
+            &[0x2000_02B7, 0xFC42_8293, 0x0202_C00B],
+            "hints 9",
+            Status::Trapped,
+            "trap out-of-range at 00001008",
         ),
     ];
-    for (words, limit, status, text) in rows {
-        let line = format!(in alloc; "run elf hints {limit}")?;
-        says(&rt, elf_of(alloc, words)?, &line, status, text)?;
+    for (words, rest, status, text) in rows {
+        let line = format!(in alloc; "run elf {rest}")?;
+        let text = format!(in alloc; "{text}\n")?;
+        says(&rt, elf_of(alloc, words)?, &line, status, &text)?;
     }
     Ok(())
 }
@@ -295,7 +520,7 @@ fn machine_by_steps(rt: HostRuntime) -> Result<(), Fail> {
     assert_eq!(rt; state.hints_left(), [5, 6].as_slice());
 
     let trap = Trap {
-        cause: Cause::NotBuilt,
+        cause: Cause::Undecoded,
         pc: 0x1000,
     };
     let broken = read_image(alloc, &elf_of(alloc, &[0])?)?;

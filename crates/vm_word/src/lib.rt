@@ -5,6 +5,7 @@
 ghost use Rattle.std.specs.Prelude.{◌≡◌, ◌<◌};
 ghost use Rattle.vm_word.specs.Word.{bits_of, halves_of, limbs_of, rotated_right, signed_value, word_of_limbs};
 
+pub mod arithmetic;
 pub mod laws;
 
 /// The bytes of a word, limb 0 the lowest.

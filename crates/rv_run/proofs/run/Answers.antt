@@ -9,7 +9,7 @@ use Rattle.rv_run.proofs.run.Goals.{else-loop-steps-test, then-loop-steps-test+i
 pub loop-steps-preserved : goal.loop-steps-preserved
 loop-steps-preserved c = record {
   reached = goes_by_step _ _ _ c.loop-steps.state c.step.new.self _ c.loop-steps.invariant.reached c.loop-steps.invariant.same c.in_ok-step.ensures.step c.in-Went.is;
-  same = ap (λ (i : Bor Loaded). i.now) c.in_ok-step.ensures.image ∙ c.loop-steps.invariant.same;
+  same = c.in_ok-step.ensures.program ∙ c.loop-steps.invariant.same;
 }
 
 pub returns : goal.returns

@@ -1,0 +1,3 @@
+pub mod InstrLaws
+pub mod MeansLaws
+pub mod Example

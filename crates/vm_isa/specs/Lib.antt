@@ -1,0 +1,5 @@
+pub mod Words
+pub mod Opcodes
+pub mod Slots
+pub mod Instr
+pub mod Means

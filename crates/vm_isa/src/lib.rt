@@ -1,0 +1,18 @@
+//! The instructions of the machine as program rows, what one step of it touches, and what an
+//! instruction means.
+#![tactic(auto)]
+
+mod access;
+mod accesses;
+mod instr;
+pub mod opcode;
+mod record;
+#[cfg(test)]
+mod tests;
+
+pub use access::{Access, TimedAccess};
+pub use accesses::{AccessList, MAX_ACCESSES};
+pub use instr::VmInstr;
+pub use opcode::slots;
+pub use record::StepRecord;
+pub use std::alloc::AllocError as OutOfMemory;
