@@ -1,38 +1,61 @@
--- A file of one executable load, by the layout of ELF32 (System V ABI, chapter 4, "ELF Header", and
--- chapter 5, "Program Header"; RISC-V ELF psABI for the machine's number). Numbers are little-endian.
-use Rattle.std.specs.Prelude.{ℕ, List, ◌∷◌, ◌++◌, length, replicate}
-use Rattle.byteorder.specs.Endian.{little_bytes}
+-- The layout of an ELF32 file: System V ABI, chapter 4, "ELF Header", and chapter 5, "Program Header". Numbers are
+-- little-endian. Of the fields, those stand here that decide what is loaded.
+use Rattle.std.specs.Prelude.{ℕ, ◌+◌, ◌*◌, Bool, ◌==◌, List, map, filter, drop}
+use Rattle.std.specs.List.{range_with_len}
+use Rattle.byteorder.specs.Endian.{little_number}
+use Rattle.elf_image.specs.declared.headers.ProgramHeader.{ProgramHeader}
 
--- the magic, the class of 32 bits, the lowest byte first, version 1, and nine zeros
-abbrev pub identification : List ℕ
-identification = 0x7f ∷ 0x45 ∷ 0x4c ∷ 0x46 ∷ 1 ∷ 1 ∷ 1 ∷ replicate 9 0
+-- Elf32_Half and Elf32_Word (as Elf32_Addr and Elf32_Off) at an offset
+unfoldable pub half : ℕ → List ℕ → ℕ
+half offset bytes = little_number 2 (drop offset bytes)
 
-abbrev pub file_header : ℕ → List ℕ
-file_header entry =
-    identification
-    ++ little_bytes 2 2  -- e_type: an executable
-    ++ little_bytes 2 243  -- e_machine: RISC-V
-    ++ little_bytes 4 1  -- e_version
-    ++ little_bytes 4 entry  -- e_entry
-    ++ little_bytes 4 52  -- e_phoff: the program header follows
-    ++ little_bytes 4 0  -- e_shoff
-    ++ little_bytes 4 0  -- e_flags
-    ++ little_bytes 2 52  -- e_ehsize
-    ++ little_bytes 2 32  -- e_phentsize
-    ++ little_bytes 2 1  -- e_phnum
-    ++ replicate 6 0  -- no sections
+unfoldable pub word : ℕ → List ℕ → ℕ
+word offset bytes = little_number 4 (drop offset bytes)
 
-abbrev pub program_header : ℕ → ℕ → List ℕ
-program_header address size =
-    little_bytes 4 1  -- p_type: PT_LOAD
-    ++ little_bytes 4 84  -- p_offset: behind both headers
-    ++ little_bytes 4 address  -- p_vaddr
-    ++ little_bytes 4 address  -- p_paddr
-    ++ little_bytes 4 size  -- p_filesz
-    ++ little_bytes 4 size  -- p_memsz
-    ++ little_bytes 4 5  -- p_flags: PF_R and PF_X
-    ++ little_bytes 4 4  -- p_align
+-- ELF Header, Elf32_Ehdr: 52 bytes, of which the first 16 are e_ident
+abbrev pub e_type : List ℕ → ℕ
+e_type bytes = half 16 bytes
 
--- the file whose one load is this text at this address, which is the entry
-abbrev pub elf_of : ℕ → List ℕ → List ℕ
-elf_of base text = (file_header base ++ program_header base (length text)) ++ text
+abbrev pub e_machine : List ℕ → ℕ
+e_machine bytes = half 18 bytes
+
+abbrev pub e_entry : List ℕ → ℕ
+e_entry bytes = word 24 bytes
+
+abbrev pub e_phoff : List ℕ → ℕ
+e_phoff bytes = word 28 bytes
+
+abbrev pub e_flags : List ℕ → ℕ
+e_flags bytes = word 36 bytes
+
+abbrev pub e_phentsize : List ℕ → ℕ
+e_phentsize bytes = half 42 bytes
+
+abbrev pub e_phnum : List ℕ → ℕ
+e_phnum bytes = half 44 bytes
+
+-- Program Header, Elf32_Phdr: 32 bytes
+abbrev pub program_header : ℕ → List ℕ → ProgramHeader
+program_header offset bytes = record {
+  p_type = word offset bytes;
+  p_offset = word (offset + 4) bytes;
+  p_vaddr = word (offset + 8) bytes;
+  p_filesz = word (offset + 16) bytes;
+  p_memsz = word (offset + 20) bytes;
+  p_flags = word (offset + 24) bytes;
+}
+
+-- the header at a place of the program header table
+abbrev pub header_at : List ℕ → ℕ → ProgramHeader
+header_at bytes place = program_header (e_phoff bytes + 32 * place) bytes
+
+abbrev pub program_headers : List ℕ → List ProgramHeader
+program_headers bytes = map (header_at bytes) (range_with_len 0 (e_phnum bytes))
+
+-- PT_LOAD
+abbrev pub is_load : ProgramHeader → Bool
+is_load header = header.p_type == 1
+
+-- the loads, in the order of the table
+abbrev pub load_headers : List ℕ → List ProgramHeader
+load_headers bytes = filter is_load (program_headers bytes)

@@ -1,4 +1,5 @@
-pub mod Loaded
 pub mod Elf
+pub mod Loaded
 pub mod Image
+pub mod Layout
 pub mod Laws

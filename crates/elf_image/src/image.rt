@@ -1,16 +1,22 @@
 // The image that is kept of a file.
-ghost use Rattle.std.specs.Prelude.{◌≡◌};
-ghost use Rattle.elf_image.specs.Loaded.{byte_of, word_of};
-ghost use Rattle.elf_image.specs.Image.{IsText, text_at};
+ghost use Rattle.std.specs.Prelude.{◌≡◌, ◌≤◌, Contains, IfSome, length, slice_get, true};
+ghost use Rattle.elf_image.specs.Image.{loaded_by};
+ghost use Rattle.elf_image.specs.Layout.{Begun, IsLaidOut, follow};
+ghost use Rattle.elf_image.specs.Loaded.{IsPart, byte_of, text_of, word_of};
 
-use byteorder::{ByteOrder, LittleEndian};
+use crate::headers::ProgramHeader;
+use crate::segments::bytes_of;
+use crate::{LoadPart, TextWord};
 use std::marker::Model;
 
 /// A program in memory, as its file gives it.
 #[derive(Drop)]
 pub struct Image {
     entry: u32,
-    text: Vec<u8>,
+    // One copy of the file's bytes, however many loads take from them.
+    file: Vec<u8>,
+    loads: Vec<ProgramHeader>,
+    text: Vec<TextWord>,
 }
 
 impl Model for Image {
@@ -18,20 +24,50 @@ impl Model for Image {
 
     ghost Value = { Loaded };
 
-    ghost use Rattle.elf_image.specs.Image.{IsText, text_at};
+    ghost use Rattle.elf_image.specs.Image.{loaded_by};
+    ghost use Rattle.elf_image.specs.Layout.{IsLaidOut};
 
-    ghost view = { λ image. text_at image.entry image.text.items };
+    ghost view = { λ image. loaded_by image.entry image.file.items image.loads.items };
 
-    ghost invariant = { λ image. IsText image.text.items };
+    ghost invariant = { λ image. IsLaidOut image.entry image.file.items image.loads.items image.text.items };
+}
+
+// How many of these loads begin at the address or before it.
+fn count_begun(loads: &[ProgramHeader], address: u32) -> usize
+    requires { follow 0 loads.now ≡ true }
+    ensures within { result ≤ length loads.now }
+    ensures begun { Begun loads.now address result }
+{
+    loads.partition_point(|load| load.p_vaddr <= address)
+}
+
+// The word at an address, if the words from the first on follow one another up to there, as those of one load do.
+fn word_in_line(text: &[TextWord], pc: u32) -> Option<TextWord>
+    ensures { IfSome result (λ word. Contains text.now word × (word.pc ≡ pc)) }
+{
+    let first = text.first()?;
+    let place = pc.checked_sub(first.pc)? / 4;
+    let word = *text.get(place as usize)?;
+    if word.pc == pc { Some(word) } else { None }
 }
 
 impl Image {
-    /// A program that is this text at this address, and begins there.
-    pub(crate) fn new(entry: u32, text: Vec<u8>) -> Self
-        requires { IsText text.items }
-        ensures { result ≡ text_at entry text.items }
+    /// The image of a file with these loads and this text.
+    pub(crate) fn new(
+        entry: u32,
+        file: Vec<u8>,
+        loads: Vec<ProgramHeader>,
+        text: Vec<TextWord>,
+    ) -> Self
+        requires { IsLaidOut entry file.items loads.items text.items }
+        ensures { result ≡ loaded_by entry file.items loads.items }
     {
-        Image { entry, text }
+        Image {
+            entry,
+            file,
+            loads,
+            text,
+        }
     }
 
     /// The address at which a run begins.
@@ -45,27 +81,66 @@ impl Image {
     pub fn byte(&self, address: u32) -> u8
         ensures { result ≡ byte_of self.now address }
     {
-        let text = self.text.as_slice();
-        if address < self.entry {
+        let begun = count_begun(&self.loads, address);
+        if begun == 0 {
             return 0;
         }
-        let place = (address - self.entry) as usize;
-        if place < text.len() { text[place] } else { 0 }
+        let load = self.loads[begun - 1];
+        let bytes = bytes_of(&self.file, &load);
+        let offset = (address - load.p_vaddr) as usize;
+        if offset < bytes.len() {
+            bytes[offset]
+        } else {
+            0
+        }
     }
 
     /// The text word at an address.
     pub fn word_at(&self, pc: u32) -> Option<u32>
         ensures { result ≡ word_of self.now pc }
     {
-        let text = self.text.as_slice();
-        if pc % 4 != 0 || pc < self.entry {
+        if let Some(found) = word_in_line(&self.text, pc) {
+            return Some(found.word);
+        }
+        match self.text.binary_search_by_key(&pc, |word| word.pc) {
+            Ok(place) => Some(self.text[place].word),
+            Err(_) => None,
+        }
+    }
+
+    /// How many text words there are.
+    pub fn text_len(&self) -> usize
+        ensures { result ≡ length (text_of self.now) }
+    {
+        self.text.len()
+    }
+
+    /// The text word at a place, in rising order of address.
+    pub fn text(&self, place: usize) -> Option<TextWord>
+        ensures { result ≡ slice_get (text_of self.now) place }
+    {
+        self.text.get(place).copied()
+    }
+
+    /// How many loads there are that are not empty.
+    pub fn loads_len(&self) -> usize
+        ensures { result ≡ length self.now.loads }
+    {
+        self.loads.len()
+    }
+
+    /// The load at a place, in rising order of address. A load of size 0 has no place.
+    pub fn load(&self, place: usize) -> Option<LoadPart<'_>>
+        ensures { IsPart (slice_get self.now.loads place) result }
+    {
+        if place >= self.loads.len() {
             return None;
         }
-        let place = (pc - self.entry) as usize;
-        if place + 4 <= text.len() {
-            Some(LittleEndian::read_u32(&text[place..]))
-        } else {
-            None
-        }
+        let load = self.loads[place];
+        Some(LoadPart {
+            address: load.p_vaddr,
+            bytes: bytes_of(&self.file, &load),
+            size: load.p_memsz,
+        })
     }
 }

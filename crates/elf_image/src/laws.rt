@@ -1,5 +1,5 @@
 // What follows from the definitions.
-ghost use Rattle.elf_image.specs.Laws.{ImageIsOne, RefusedHasNoImage, RefusalIsOne};
+ghost use Rattle.elf_image.specs.Laws.{ImageIsOne, RefusalIsOne, RefusedHasNoImage};
 
 /// A file has one image.
 pub fn image_is_one()

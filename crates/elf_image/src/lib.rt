@@ -1,71 +1,131 @@
 //! Program files: what an ELF32 file puts into memory, and which of its words are text.
 #![tactic(auto)]
 
-ghost use Rattle.std.specs.Prelude.{◌≡◌, ◌≢◌, ◌++◌, ◌↔◌, IfOk, IfErr, IsTrue};
-ghost use Rattle.elf_image.specs.Elf.{file_header, program_header};
-ghost use Rattle.elf_image.specs.Image.{HasImage, IsRefused, IsText};
+ghost use Rattle.std.specs.Prelude.{◌≡◌, ◌≢◌, ◌≤◌, IfErr, IfOk, IsPermutation, filter, length, nat_lt};
+ghost use Rattle.std.specs.List.Sorted.{IsNonDecreasingBy};
+ghost use Rattle.elf_image.specs.Elf.{load_headers};
+ghost use Rattle.elf_image.specs.Image.{HasImage, IsRefused, NoneBefore, place};
 
+mod headers;
 mod image;
 mod laws;
+mod refusals;
+mod segments;
+#[cfg(test)]
+mod tests;
 
+use headers::{ProgramHeader, read_loads, read_word};
 pub use image::Image;
 pub use laws::{image_is_one, refusal_is_one, refused_has_no_image};
-use std::alloc::Global;
+use refusals::{header_refusal, load_refusal, overlap};
+use segments::{in_order, read_text};
+use std::alloc::{AllocError, AllocFailed, Global};
 use thiserror::Error;
 
 /// Why a file has no image.
 #[derive(Clone, Copy, Debug, PartialEq, Eq, Error)]
 pub enum ImageError {
-    /// The file isn't one text at address 0x1000, the only form that is read so far.
-    #[error("this form of file is not read yet")]
-    NotBuilt,
+    #[error("the file ends before its header does")]
+    Short,
+    #[error("this is not an ELF file")]
+    Magic,
+    #[error("the file is not of the 32-bit class")]
+    Class,
+    #[error("the file's numbers are not little-endian")]
+    Order,
+    #[error("the file is not an executable")]
+    FileType,
+    #[error("the file is not for RISC-V")]
+    Machine,
+    #[error("the file has compressed instructions")]
+    Compressed,
+    #[error("a program header is not of 32 bytes")]
+    HeaderSize,
+    #[error("there are over 256 program headers, or the file ends before they do")]
+    HeaderTable,
+    #[error("a load has more bytes in the file than in memory")]
+    SegmentSize,
+    #[error("the file ends before a load does")]
+    Truncated,
+    #[error("a load ends past the memory's end")]
+    Range,
+    #[error("two loads share an address")]
+    Overlap,
+    #[error("there are over 2^20 text words")]
+    TextSize,
+    #[error("the entry is not the address of a text word")]
+    Entry,
     #[error("out of memory")]
     OutOfMemory,
 }
 
-const TEXT_ADDRESS: u32 = 0x1000;
+impl From<AllocError> for ImageError {
+    ghost use Rattle.elf_image.specs.declared.ImageError.TheVariants.{OutOfMemory};
 
-// Both headers of a file with one load.
-const HEADERS_LENGTH: usize = 84;
+    ghost from_gives = { λ _ error. error ≡ OutOfMemory };
 
-const MAX_TEXT_LENGTH: usize = 4 << 20;
+    fn from(_error: AllocError) -> ImageError {
+        ImageError::OutOfMemory
+    }
+}
+
+impl<T: Drop> From<AllocFailed<T>> for ImageError {
+    ghost use Rattle.elf_image.specs.declared.ImageError.TheVariants.{OutOfMemory};
+
+    ghost from_gives = { λ _ error. error ≡ OutOfMemory };
+
+    fn from(_error: AllocFailed<T>) -> ImageError {
+        ImageError::OutOfMemory
+    }
+}
+
+/// A text word with its address.
+#[derive(Clone, Copy, Debug, PartialEq, Eq)]
+pub struct TextWord {
+    pub pc: u32,
+    pub word: u32,
+}
+
+/// A load: its address, the bytes that the file gives from there on, and how many bytes it takes in memory. Those that
+/// the file doesn't give are 0.
+#[derive(Clone, Copy, Debug)]
+pub struct LoadPart<'a> {
+    pub address: u32,
+    pub bytes: &'a [u8],
+    pub size: u32,
+}
 
 /// Reads a program file.
 pub fn read_image(alloc: Global, bytes: &[u8]) -> Result<Image, ImageError>
     ensures image { IfOk result (HasImage bytes.now) }
     ensures refused { IfErr result (λ e. e ≢ ImageError.OutOfMemory → IsRefused bytes.now e) }
 {
-    if bytes.len() < HEADERS_LENGTH {
-        return Err(ImageError::NotBuilt);
+    if let Some(refusal) = header_refusal(bytes) {
+        return Err(refusal);
     }
-    let (headers, text) = bytes.split_at(HEADERS_LENGTH);
-    if !is_text(text) || headers != headers_of(text.len() as u32).as_slice() {
-        return Err(ImageError::NotBuilt);
+    let loads = read_loads(alloc, bytes)?;
+    if let Some(refusal) = load_refusal(bytes, &loads) {
+        return Err(refusal);
     }
-    match text.to_vec(alloc) {
-        Ok(text) => Ok(Image::new(TEXT_ADDRESS, text)),
-        Err(_) => Err(ImageError::OutOfMemory),
-    }
+    lay_out(alloc, bytes, in_order(loads))
 }
 
-// Whole words, 1 to 2^20 of them.
-fn is_text(bytes: &[u8]) -> bool
-    ensures { IsTrue result ↔ IsText bytes.now }
+// The image of a file with these loads, which are in order of address.
+fn lay_out(alloc: Global, bytes: &[u8], loads: Vec<ProgramHeader>) -> Result<Image, ImageError>
+    requires loads { IsPermutation (filter (λ load. nat_lt 0 load.p_memsz) (load_headers bytes.now)) loads.items }
+    requires rising { IsNonDecreasingBy (λ load. load.p_vaddr) loads.items }
+    requires long { 52 ≤ length bytes.now }
+    requires first { NoneBefore (place ImageError.Overlap) bytes.now }
+    ensures image { IfOk result (HasImage bytes.now) }
+    ensures refused { IfErr result (λ e. e ≢ ImageError.OutOfMemory → IsRefused bytes.now e) }
 {
-    !bytes.is_empty() && bytes.len() <= MAX_TEXT_LENGTH && bytes.len() % 4 == 0
-}
-
-// The headers of a file whose load is a text of this many bytes.
-#[rattlefmt::skip]
-fn headers_of(size: u32) -> [u8; HEADERS_LENGTH]
-    ensures { result ≡ file_header 0x1000 ++ program_header 0x1000 size }
-{
-    let [a, b, c, d] = size.to_le_bytes();
-    [
-        0x7f, b'E', b'L', b'F', 1, 1, 1, 0, 0, 0, 0, 0, 0, 0, 0, 0,
-        2, 0, 243, 0, 1, 0, 0, 0, 0x00, 0x10, 0, 0, 52, 0, 0, 0,
-        0, 0, 0, 0, 0, 0, 0, 0, 52, 0, 32, 0, 1, 0, 0, 0, 0, 0, 0, 0,
-        1, 0, 0, 0, 84, 0, 0, 0, 0x00, 0x10, 0, 0, 0x00, 0x10, 0, 0,
-        a, b, c, d, a, b, c, d, 5, 0, 0, 0, 4, 0, 0, 0,
-    ]
+    if overlap(&loads) {
+        return Err(ImageError::Overlap);
+    }
+    let text = read_text(alloc, bytes, &loads)?;
+    let image = Image::new(read_word(bytes, 24), bytes.to_vec(alloc)?, loads, text);
+    if image.word_at(image.entry()).is_none() {
+        return Err(ImageError::Entry);
+    }
+    Ok(image)
 }

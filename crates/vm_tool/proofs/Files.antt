@@ -1,5 +1,5 @@
 -- Opening and reading one file.
-use Rattle.std.proofs.Common.{◌≡◌, ℕ, ◌<◌, List, [], ◌∷◌, length, refl, ap, ◌∙◌, arith, IfSome, Ok, Err, subst, sym, inl, inr}
+use Rattle.std.proofs.Common.{◌≡◌, ◌≢◌, ℕ, ◌<◌, ◌≤◌, List, [], ◌∷◌, length, refl, ap, ◌∙◌, arith, IfSome, Ok, Err, subst, sym, inl, inr}
 use Rattle.std.specs.declared.option.Option.{Option}
 use Rattle.vm_host.specs.declared.Slot.{Slot}
 use Rattle.vm_host.specs.declared.Place.{Place}
@@ -8,8 +8,12 @@ use Rattle.vm_host.specs.Names.{place_of}
 use Rattle.vm_host.specs.State.{HostState, Input, then_more}
 use Rattle.vm_host.specs.Calls.{Opens, Notes}
 use Rattle.vm_host.specs.ReadUpTo.{Took, ReadsUpTo}
-use Rattle.vm_tool.specs.Files.{MAX_FILE}
-use Rattle.vm_tool.specs.ReadFile.{Quiet, ReadWhole}
+use Rattle.elf_image.specs.declared.ImageError.{ImageError}
+use Rattle.elf_image.specs.declared.ImageError.TheVariants.{Short, Magic, Class, Order, FileType, Machine, Compressed, HeaderSize, HeaderTable, SegmentSize, Truncated, Range, Overlap, TextSize, Entry, OutOfMemory}
+use Rattle.elf_image.specs.Image.{IsRefused}
+use Rattle.vm_host.specs.declared.Slot.TheVariants.{Elf}
+use Rattle.vm_tool.specs.Files.{MAX_FILE, RefusesElf, refused, halt_of_image}
+use Rattle.vm_tool.specs.ReadFile.{Quiet, ReadWhole, HaltsAt}
 use Rattle.vm_tool.proofs.Quiet.{long_content}
 
 noted_at_ok : {T : Type 0} (old new : Option (List (Place × List ℕ))) (pair : Place × List ℕ) (x : T) → Notes old new pair (Ok x) → new ≡ then_more old (pair ∷ [])
@@ -32,3 +36,22 @@ file_too_long items slot name s t u x o r =
     let P : Option (List ℕ) → Type 0 = λ told. IfSome told (λ all. MAX_FILE < length all) in
     let bytes = long_content (s.content slot name) MAX_FILE (subst P rest (r.too_long refl)) in
     (bytes.0, record { told = bytes.1; quiet = opened_then_took slot name r.took.0 s t u x o r.took.1 }, bytes.2)
+
+-- a file that was read and has no image, or for which memory was refused
+pub image_halts : (name bytes : List ℕ) (old new : HostState) (error : ImageError) → ReadWhole Elf name old new bytes → length bytes ≤ MAX_FILE → (error ≢ OutOfMemory → IsRefused bytes error) → HaltsAt RefusesElf Elf name old new (halt_of_image error)
+image_halts name bytes old new Short read short why = (bytes, read, refused Short short (why (λ e. cc (e))) refl)
+image_halts name bytes old new Magic read short why = (bytes, read, refused Magic short (why (λ e. cc (e))) refl)
+image_halts name bytes old new Class read short why = (bytes, read, refused Class short (why (λ e. cc (e))) refl)
+image_halts name bytes old new Order read short why = (bytes, read, refused Order short (why (λ e. cc (e))) refl)
+image_halts name bytes old new FileType read short why = (bytes, read, refused FileType short (why (λ e. cc (e))) refl)
+image_halts name bytes old new Machine read short why = (bytes, read, refused Machine short (why (λ e. cc (e))) refl)
+image_halts name bytes old new Compressed read short why = (bytes, read, refused Compressed short (why (λ e. cc (e))) refl)
+image_halts name bytes old new HeaderSize read short why = (bytes, read, refused HeaderSize short (why (λ e. cc (e))) refl)
+image_halts name bytes old new HeaderTable read short why = (bytes, read, refused HeaderTable short (why (λ e. cc (e))) refl)
+image_halts name bytes old new SegmentSize read short why = (bytes, read, refused SegmentSize short (why (λ e. cc (e))) refl)
+image_halts name bytes old new Truncated read short why = (bytes, read, refused Truncated short (why (λ e. cc (e))) refl)
+image_halts name bytes old new Range read short why = (bytes, read, refused Range short (why (λ e. cc (e))) refl)
+image_halts name bytes old new Overlap read short why = (bytes, read, refused Overlap short (why (λ e. cc (e))) refl)
+image_halts name bytes old new TextSize read short why = (bytes, read, refused TextSize short (why (λ e. cc (e))) refl)
+image_halts name bytes old new Entry read short why = (bytes, read, refused Entry short (why (λ e. cc (e))) refl)
+image_halts name bytes old new OutOfMemory read short why = record { count = 1; quiet = read.quiet }

@@ -5,7 +5,6 @@ use Rattle.vm_host.specs.declared.Place.{Place}
 use Rattle.vm_host.specs.declared.Place.TheVariants as place
 use Rattle.vm_host.specs.State.{HostState}
 use Rattle.elf_image.specs.Loaded.{Loaded}
-use Rattle.elf_image.specs.Image.{HasImage}
 use Rattle.rv_run.specs.declared.outcome.RunEnd.{RunEnd}
 use Rattle.rv_run.specs.Run.{IsRunEnd}
 use Rattle.vm_tool.specs.declared.answer.Answer.{Answer}
@@ -14,7 +13,7 @@ use Rattle.vm_tool.specs.declared.answer.Halt.{Halt}
 use Rattle.vm_tool.specs.declared.answer.Halt.TheVariants.{Found, Memory}
 use Rattle.vm_tool.specs.Answer.{status_of}
 use Rattle.vm_tool.specs.Command.{run}
-use Rattle.vm_tool.specs.Files.{MAX_FILE, RefusesElf, RefusesHints}
+use Rattle.vm_tool.specs.Files.{MAX_FILE, GivesImage, RefusesElf, too_long, refused, RefusesHints}
 use Rattle.vm_tool.specs.RunCommand.{answer_of_end, elf_refused, hints_refused, ended, RunSays}
 use Rattle.vm_tool.specs.ReadFile.{ReadWhole, HaltsAt}
 use Rattle.vm_tool.specs.Outcome.{Finds}
@@ -23,7 +22,8 @@ use Rattle.vm_tool.proofs.Stages.{halts, finds_quietly}
 
 -- a refusal is no success
 elf_not_done : (bytes : List ℕ) (found : Answer) → RefusesElf bytes found → status_of found ≡ Done → ⊥
-elf_not_done bytes found r d = cc (sym (ap status_of r.is) ∙ d)
+elf_not_done bytes found (too_long long is) d = cc (sym (ap status_of is) ∙ d)
+elf_not_done bytes found (refused error short r is) d = cc (sym (ap status_of is) ∙ d)
 
 hints_not_done : (bytes : List ℕ) (found : Answer) → RefusesHints bytes found → status_of found ≡ Done → ⊥
 hints_not_done bytes found r d = cc (sym (ap status_of r.is) ∙ d)
@@ -33,22 +33,22 @@ pub elf_halts : (elf hints : List ℕ) (steps : ℕ) (s t : HostState) (halt : H
 elf_halts elf hints steps s t halt h =
     let other = some_content (s.content Second hints) in
     halts (run elf hints steps) RefusesElf Elf elf [] ((place.Second, hints) ∷ []) s s t halt refl (λ o. o) (quiet_none s) h
-    (λ bytes found told refused. (
-      record { elf_bytes = bytes; hint_bytes = other.0; elf_told = told; hints_told = other.1; is = elf_refused refused },
-      elf_not_done bytes found refused,
+    (λ bytes found told why. (
+      record { elf_bytes = bytes; hint_bytes = other.0; elf_told = told; hints_told = other.1; is = elf_refused why },
+      elf_not_done bytes found why,
     ))
 
 -- the hint file's bytes decide
-pub hints_halt : (elf hints : List ℕ) (steps : ℕ) (s t u : HostState) (bytes : List ℕ) (loaded : Loaded) (halt : Halt) → ReadWhole Elf elf s t bytes → HasImage bytes loaded → HaltsAt RefusesHints Second hints t u halt → Finds (Some (run elf hints steps)) s u halt
+pub hints_halt : (elf hints : List ℕ) (steps : ℕ) (s t u : HostState) (bytes : List ℕ) (loaded : Loaded) (halt : Halt) → ReadWhole Elf elf s t bytes → GivesImage bytes loaded → HaltsAt RefusesHints Second hints t u halt → Finds (Some (run elf hints steps)) s u halt
 hints_halt elf hints steps s t u bytes loaded halt a image h =
     halts (run elf hints steps) RefusesHints Second hints ((place.Elf, elf) ∷ []) [] s t u halt refl (λ o. o) a.quiet h
-    (λ given found told refused. (
-      record { elf_bytes = bytes; hint_bytes = given; elf_told = a.told; hints_told = told; is = hints_refused loaded image refused },
-      hints_not_done given found refused,
+    (λ given found told why. (
+      record { elf_bytes = bytes; hint_bytes = given; elf_told = a.told; hints_told = told; is = hints_refused loaded image why },
+      hints_not_done given found why,
     ))
 
 -- the run decides
-pub run_found : (elf hints : List ℕ) (steps : ℕ) (s t u : HostState) (bytes given : List ℕ) (loaded : Loaded) (end : RunEnd) → ReadWhole Elf elf s t bytes → HasImage bytes loaded → ReadWhole Second hints t u given → length given ≤ MAX_FILE → IsRunEnd loaded given steps end → Finds (Some (run elf hints steps)) s u (Found (answer_of_end steps end))
+pub run_found : (elf hints : List ℕ) (steps : ℕ) (s t u : HostState) (bytes given : List ℕ) (loaded : Loaded) (end : RunEnd) → ReadWhole Elf elf s t bytes → GivesImage bytes loaded → ReadWhole Second hints t u given → length given ≤ MAX_FILE → IsRunEnd loaded given steps end → Finds (Some (run elf hints steps)) s u (Found (answer_of_end steps end))
 run_found elf hints steps s t u bytes given loaded end a image b short is_end =
     let names : List (Place × List ℕ) = (place.Elf, elf) ∷ [] in
     let quiet = quiet_both s t u names ((place.Second, hints) ∷ []) a.quiet b.quiet in

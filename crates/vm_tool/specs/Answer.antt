@@ -14,7 +14,21 @@ use Rattle.vm_tool.specs.declared.answer.Status.TheVariants as status
 
 -- a refusal of a program file, in words; want of memory is none, and is never said
 abbrev pub refusal_text : ImageError → List ℕ
-refusal_text image.NotBuilt = codes "not-built"
+refusal_text image.Short = codes "short"
+refusal_text image.Magic = codes "magic"
+refusal_text image.Class = codes "class"
+refusal_text image.Order = codes "order"
+refusal_text image.FileType = codes "file-type"
+refusal_text image.Machine = codes "machine"
+refusal_text image.Compressed = codes "compressed"
+refusal_text image.HeaderSize = codes "header-size"
+refusal_text image.HeaderTable = codes "header-table"
+refusal_text image.SegmentSize = codes "segment-size"
+refusal_text image.Truncated = codes "truncated"
+refusal_text image.Range = codes "range"
+refusal_text image.Overlap = codes "overlap"
+refusal_text image.TextSize = codes "text-size"
+refusal_text image.Entry = codes "entry"
 refusal_text image.OutOfMemory = codes "out-of-memory"
 
 abbrev pub cause_text : Cause → List ℕ
@@ -28,6 +42,7 @@ cause_text cause.PublicIndex = codes "public-index"
 
 abbrev pub status_of : Answer → Status
 status_of answer.Words = status.Words
+status_of answer.ElfTooLong = status.ElfRefused
 status_of (answer.ElfRefused refusal) = status.ElfRefused
 status_of answer.HintLimit = status.Limit
 status_of (answer.Exit code public_bytes steps) = status.Done
@@ -42,6 +57,7 @@ line_of_exit code digits steps =
 -- the line that is said
 abbrev pub text_of : Answer → List ℕ
 text_of answer.Words = codes "words\n"
+text_of answer.ElfTooLong = codes "elf too-long\n"
 text_of (answer.ElfRefused refusal) = codes "elf " ++ refusal_text refusal ++ codes "\n"
 text_of answer.HintLimit = codes "limit hints 67108864\n"
 text_of (answer.Exit code public_bytes steps) = line_of_exit code (encode_lower public_bytes) steps

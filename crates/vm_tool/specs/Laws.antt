@@ -1,5 +1,5 @@
 -- What follows from the contract of the top call.
-use Rattle.std.specs.Prelude.{◌≡◌, ◌⊎◌, ℕ, ◌≤◌, List, length, Some, Option}
+use Rattle.std.specs.Prelude.{◌≡◌, ◌⊎◌, ℕ, ◌<◌, ◌≤◌, List, length, Some, Option}
 use Rattle.vm_host.specs.declared.Slot.TheVariants.{Elf, Second}
 use Rattle.vm_host.specs.State.{HostState, then_more}
 use Rattle.vm_host.specs.Calls.{Rose}
@@ -44,8 +44,17 @@ RefusedElfIsSaid = (old new : HostState) (result : Status) (elf hints elf_bytes 
     → Answers (Some (run elf hints steps)) old new result
     → old.content Elf elf ≡ Some elf_bytes
     → (Rose old.faults new.faults → ⊥)
-    → IsRefused elf_bytes error
+    → length elf_bytes ≤ MAX_FILE → IsRefused elf_bytes error
     → IsAnswered old new result (answer.ElfRefused error)
+
+-- the same of an ELF file that is too long
+abbrev pub LongElfIsSaid : Type 0
+LongElfIsSaid = (old new : HostState) (result : Status) (elf hints elf_bytes : List ℕ) (steps : ℕ)
+    → Answers (Some (run elf hints steps)) old new result
+    → old.content Elf elf ≡ Some elf_bytes
+    → (Rose old.faults new.faults → ⊥)
+    → MAX_FILE < length elf_bytes
+    → IsAnswered old new result answer.ElfTooLong
 
 -- where both files are told and no fault is counted, a run that ends within the limit is answered with its end
 abbrev pub RunIsComplete : Type 0
@@ -53,7 +62,7 @@ RunIsComplete = (old new : HostState) (result : Status) (elf hints elf_bytes hin
     → Answers (Some (run elf hints limit)) old new result
     → old.content Elf elf ≡ Some elf_bytes → old.content Second hints ≡ Some hint_bytes
     → (Rose old.faults new.faults → ⊥)
-    → HasImage elf_bytes loaded → length hint_bytes ≤ MAX_FILE
+    → length elf_bytes ≤ MAX_FILE → HasImage elf_bytes loaded → length hint_bytes ≤ MAX_FILE
     → steps ≤ limit → Ends loaded hint_bytes steps code public_bytes
     → IsAnswered old new result (answer.Exit code public_bytes steps)
 

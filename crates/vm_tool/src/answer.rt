@@ -37,6 +37,8 @@ impl Status {
 pub enum Answer {
     /// The words are no command.
     Words,
+    /// The ELF file has more than 2^26 bytes.
+    ElfTooLong,
     ElfRefused(ImageError),
     /// The hint file is too long.
     HintLimit,
@@ -68,7 +70,7 @@ impl Answer {
     {
         match self {
             Answer::Words => Status::Words,
-            Answer::ElfRefused(_) => Status::ElfRefused,
+            Answer::ElfTooLong | Answer::ElfRefused(_) => Status::ElfRefused,
             Answer::HintLimit | Answer::StepLimit { .. } => Status::Limit,
             Answer::Exit { .. } => Status::Done,
             Answer::Trapped(_) => Status::Trapped,
@@ -81,6 +83,7 @@ impl Answer {
     {
         match self {
             Answer::Words => String::from_str(alloc, "words\n"),
+            Answer::ElfTooLong => String::from_str(alloc, "elf too-long\n"),
             Answer::ElfRefused(refusal) => {
                 let refusal = refusal_name(*refusal);
                 format!(in alloc; "elf {refusal}\n")
@@ -108,7 +111,21 @@ fn refusal_name(refusal: ImageError) -> &'static str
     ensures { result.now ≡ refusal_text refusal }
 {
     match refusal {
-        ImageError::NotBuilt => "not-built",
+        ImageError::Short => "short",
+        ImageError::Magic => "magic",
+        ImageError::Class => "class",
+        ImageError::Order => "order",
+        ImageError::FileType => "file-type",
+        ImageError::Machine => "machine",
+        ImageError::Compressed => "compressed",
+        ImageError::HeaderSize => "header-size",
+        ImageError::HeaderTable => "header-table",
+        ImageError::SegmentSize => "segment-size",
+        ImageError::Truncated => "truncated",
+        ImageError::Range => "range",
+        ImageError::Overlap => "overlap",
+        ImageError::TextSize => "text-size",
+        ImageError::Entry => "entry",
         ImageError::OutOfMemory => "out-of-memory",
     }
 }

@@ -1,8 +1,7 @@
 // The files that a command reads.
 ghost use Rattle.std.specs.Prelude.{◌≡◌, ◌≤◌, ◌<◌, ℕ, List, length};
 ghost use Rattle.vm_host.specs.declared.Slot.TheVariants.{Elf, Second};
-ghost use Rattle.elf_image.specs.Image.{HasImage};
-ghost use Rattle.vm_tool.specs.Files.{MAX_FILE, RefusesElf, RefusesHints};
+ghost use Rattle.vm_tool.specs.Files.{MAX_FILE, GivesImage, RefusesElf, RefusesHints, halt_of_image};
 ghost use Rattle.vm_tool.specs.ReadFile.{Gives};
 
 use crate::answer::{Answer, Halt};
@@ -37,14 +36,22 @@ fn read_file<H: Host>(
 
 /// Reads the ELF file, and its image.
 pub fn read_elf<H: Host>(alloc: Global, name: &str, host: &mut H) -> Result<Image, Halt>
-    ensures { Gives HasImage RefusesElf Elf name.now (H.state host.old) (H.state host.new) result }
+    ensures { Gives GivesImage RefusesElf Elf name.now (H.state host.old) (H.state host.new) result }
 {
-    let long = Answer::ElfRefused(ImageError::NotBuilt);
-    let bytes = read_file(alloc, Slot::Elf, name, long, host)?;
+    let bytes = read_file(alloc, Slot::Elf, name, Answer::ElfTooLong, host)?;
     match read_image(alloc, &bytes) {
         Ok(image) => Ok(image),
-        Err(ImageError::OutOfMemory) => Err(Halt::Memory),
-        Err(refusal) => Err(Halt::Found(Answer::ElfRefused(refusal))),
+        Err(error) => Err(image_halt(error)),
+    }
+}
+
+// Want of memory is no refusal of the file.
+fn image_halt(error: ImageError) -> Halt
+    ensures { result ≡ halt_of_image error }
+{
+    match error {
+        ImageError::OutOfMemory => Halt::Memory,
+        refusal => Halt::Found(Answer::ElfRefused(refusal)),
     }
 }
 

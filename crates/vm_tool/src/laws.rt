@@ -1,5 +1,5 @@
 // What follows from the contract of the top call.
-ghost use Rattle.vm_tool.specs.Laws.{FaultHasCause, MeaningIsOne, RefusedElfIsSaid, RunAnswerIsOne, RunIsComplete, RunIsDetermined};
+ghost use Rattle.vm_tool.specs.Laws.{FaultHasCause, LongElfIsSaid, MeaningIsOne, RefusedElfIsSaid, RunAnswerIsOne, RunIsComplete, RunIsDetermined};
 
 /// Words are one command, or none.
 pub fn meaning_is_one()
@@ -20,6 +20,11 @@ pub fn run_is_determined()
 /// A refused ELF file is said to be so, whatever the hint file is.
 pub fn refused_elf_is_said()
     ensures { RefusedElfIsSaid }
+{}
+
+/// An ELF file that is too long is said to be so, whatever the hint file is.
+pub fn long_elf_is_said()
+    ensures { LongElfIsSaid }
 {}
 
 /// A run that ends within its limit is answered with its end.

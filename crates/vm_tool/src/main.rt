@@ -13,8 +13,8 @@ mod tool;
 
 pub use answer::{Answer, Status};
 pub use laws::{
-    fault_has_cause, meaning_is_one, refused_elf_is_said, run_answer_is_one, run_is_complete,
-    run_is_determined,
+    fault_has_cause, long_elf_is_said, meaning_is_one, refused_elf_is_said, run_answer_is_one,
+    run_is_complete, run_is_determined,
 };
 use std::alloc::AllocError;
 use std::process::ExitCode;

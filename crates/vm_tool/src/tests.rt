@@ -9,25 +9,17 @@ use std::alloc::{AllocError, Global};
 use std::process::Abort;
 use std::test::Fail;
 use vm_host::{MemoryHost, NamedFile, NoFaultHost};
+use vm_vectors::{LINKED_ELF, SHA_ELF};
 
 // ADDI x5, x0, 7; reveal x5 at 0(x0); terminate 0
 const PUBLIC_SEVEN: [u32; 3] = [0x0070_0293, 0x0002_A00B, 0x0000_000B];
 
-// The file whose one load is these words at address 0x1000.
+// The file whose one load is these words at address 0x1000, and no file for no words.
 fn elf_of(alloc: Global, words: &[u32]) -> Result<Vec<u8>, AllocError> {
-    let size = (words.len() as u64).wrapping_mul(4).to_le_bytes();
-    let mut file = Vec::new(alloc);
-    file.extend_from_slice(b"\x7fELF\x01\x01\x01\0\0\0\0\0\0\0\0\0")?;
-    file.extend_from_slice(b"\x02\0\xf3\0\x01\0\0\0\0\x10\0\0\x34\0\0\0\0\0\0\0\0\0\0\0")?;
-    file.extend_from_slice(b"\x34\0\x20\0\x01\0\0\0\0\0\0\0")?;
-    file.extend_from_slice(b"\x01\0\0\0\x54\0\0\0\0\x10\0\0\0\x10\0\0")?;
-    file.extend_from_slice(&size[..4])?;
-    file.extend_from_slice(&size[..4])?;
-    file.extend_from_slice(b"\x05\0\0\0\x04\0\0\0")?;
-    for word in words {
-        file.extend_from_slice(&word.to_le_bytes())?;
+    if words.is_empty() || words.len() > 1 << 20 {
+        return Ok(Vec::new(alloc));
     }
-    Ok(file)
+    vm_vectors::elf_of(alloc, 0x1000, words)
 }
 
 fn named(alloc: Global, name: &str, bytes: Vec<u8>) -> Result<NamedFile, AllocError> {
@@ -430,30 +422,88 @@ fn refused_words(rt: HostRuntime) -> Result<(), Fail> {
     Ok(())
 }
 
+// The file of PUBLIC_SEVEN with one byte changed.
+fn changed(alloc: Global, place: usize, byte: u8) -> Result<Vec<u8>, AllocError> {
+    let mut file = elf_of(alloc, &PUBLIC_SEVEN)?;
+    if place < file.len() {
+        file[place] = byte;
+    }
+    Ok(file)
+}
+
 #[test]
 fn refused_files(rt: HostRuntime) -> Result<(), Fail> {
     let alloc = rt.alloc();
-    let mut short = elf_of(alloc, &PUBLIC_SEVEN)?;
-    short.pop();
-    let mut long = elf_of(alloc, &PUBLIC_SEVEN)?;
-    long.push(0)?;
-    let mut flagged = elf_of(alloc, &PUBLIC_SEVEN)?;
-    assert_eq!(rt; flagged.len(), 96);
-    flagged[36] = 1;
-    let no_words = elf_of(alloc, &[])?;
-    for file in [short, long, flagged, no_words, Vec::new(alloc)] {
+    let line = "run elf hints 10";
+    // a byte of the file, what it becomes, and the refusal
+    let rows = [
+        (0, 0, "magic"),
+        (4, 2, "class"),
+        (5, 2, "order"),
+        (16, 3, "file-type"),
+        (18, 62, "machine"),
+        (36, 1, "compressed"),
+        (42, 31, "header-size"),
+        // 257 headers
+        (45, 1, "header-table"),
+        // 13 bytes in the file, 12 in memory
+        (68, 13, "segment-size"),
+        // one byte further on
+        (56, 85, "truncated"),
+        // at 0xFF001000
+        (63, 0xFF, "range"),
+        // at 100C, behind the text
+        (24, 0x0C, "entry"),
+    ];
+    for (place, byte, refusal) in rows {
+        let text = format!(in alloc; "elf {refusal}\n")?;
         says(
             &rt,
-            file,
-            "run elf hints 10",
+            changed(alloc, place, byte)?,
+            line,
             Status::ElfRefused,
-            "elf not-built\n",
+            &text,
         )?;
     }
+    let mut short = elf_of(alloc, &PUBLIC_SEVEN)?;
+    short.truncate(51);
+    says(&rt, short, line, Status::ElfRefused, "elf short\n")?;
+    let mut cut = elf_of(alloc, &PUBLIC_SEVEN)?;
+    cut.pop();
+    says(&rt, cut, line, Status::ElfRefused, "elf truncated\n")?;
+
     let elf = elf_of(alloc, &PUBLIC_SEVEN)?;
     says(&rt, elf, "run missing hints 10", Status::HostFault, "")?;
     let elf = elf_of(alloc, &PUBLIC_SEVEN)?;
     says(&rt, elf, "run elf missing 10", Status::HostFault, "")
+}
+
+#[test]
+fn linked_programs(rt: HostRuntime) -> Result<(), Fail> {
+    let alloc = rt.alloc();
+    // SHA-256 of "abc" (FIPS 180-4's first example), each word with its lowest byte first
+    let digest = "bf1678baeacf018fde4041412322ae5da36103b09c7a179661ff10b4ad1500f2";
+    let text = exit_line(alloc, 0, digest, 19)?;
+    says(
+        &rt,
+        SHA_ELF.to_vec(alloc)?,
+        "run elf hints 100",
+        Status::Done,
+        &text,
+    )?;
+    let text = exit_line(alloc, 0, "2a", 8)?;
+    says(
+        &rt,
+        LINKED_ELF.to_vec(alloc)?,
+        "run elf hints 100",
+        Status::Done,
+        &text,
+    )?;
+    // a byte behind the text is no part of the program
+    let mut longer = elf_of(alloc, &PUBLIC_SEVEN)?;
+    longer.push(0)?;
+    let text = exit_line(alloc, 0, "07", 2)?;
+    says(&rt, longer, "run elf hints 2", Status::Done, &text)
 }
 
 // Each call of the host fails in turn. There are six before the line is said: to open each file, to
@@ -474,15 +524,22 @@ fn each_call_fails(rt: HostRuntime) -> Result<(), Fail> {
 }
 
 #[test]
-fn too_many_hints(rt: HostRuntime) -> Result<(), Fail> {
+fn too_long_files(rt: HostRuntime) -> Result<(), Fail> {
     let alloc = rt.alloc();
     let words = words_of(alloc, "run any other 10")?;
-    for (length, status) in [(67_108_864, Status::Done), (67_108_865, Status::Limit)] {
-        let hints = vec![in alloc; 0; length]?;
-        let mut host = NoFaultHost::new(alloc, elf_of(alloc, &PUBLIC_SEVEN)?, hints);
+    // bytes of zeros behind the ELF file's 96, and in the hint file
+    let rows: [(usize, usize, Status, &str); 4] = [
+        (67_108_768, 0, Status::Done, "exit"),
+        (67_108_769, 0, Status::ElfRefused, "elf too-long\n"),
+        (0, 67_108_864, Status::Done, "exit"),
+        (0, 67_108_865, Status::Limit, "limit hints 67108864\n"),
+    ];
+    for (behind, hints, status, text) in rows {
+        let mut elf = elf_of(alloc, &PUBLIC_SEVEN)?;
+        elf.extend_from_slice(&vec![in alloc; 0; behind]?)?;
+        let mut host = NoFaultHost::new(alloc, elf, vec![in alloc; 0; hints]?);
         assert_eq!(rt; openvm(alloc, &words, &mut host), status);
-        let limit = b"limit hints 67108864\n";
-        assert_eq!(rt; host.said() == limit.as_slice(), status == Status::Limit);
+        assert!(rt; host.said().starts_with(text.as_bytes()), "{text}");
     }
     Ok(())
 }
@@ -526,6 +583,6 @@ fn machine_by_steps(rt: HostRuntime) -> Result<(), Fail> {
     let broken = read_image(alloc, &elf_of(alloc, &[0])?)?;
     let end = run(alloc, &broken, Vec::new(alloc), 0)?;
     assert_eq!(rt; end, RunEnd::Trapped { steps: 0, trap });
-    assert!(rt; read_image(alloc, b"").err() == Some(ImageError::NotBuilt));
+    assert!(rt; read_image(alloc, b"").err() == Some(ImageError::Short));
     Ok(())
 }

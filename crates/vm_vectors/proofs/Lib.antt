@@ -1,1 +1,3 @@
 pub mod MakerLemmas
+pub mod Texts
+pub mod Files

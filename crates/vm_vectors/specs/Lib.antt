@@ -1,2 +1,3 @@
 pub mod Laws
 pub mod Makers
+pub mod ElfFile
