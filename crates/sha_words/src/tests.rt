@@ -1,6 +1,7 @@
 ghost use Rattle.std.specs.Prelude.{◌≤◌, length};
 
 use super::*;
+use sha2::{Digest, Sha256};
 
 // A block that begins with `start` and ends with the length `bits`.
 fn block_of(start: &[u8], bits: u16) -> [u8; 64]
@@ -112,4 +113,28 @@ fn standard_examples(rt: HostRuntime) {
         assert_eq!(rt; words[t], want, "at word {t}");
     }
     assert_eq!(rt; schedule(&[0; 64]), [0; 80]);
+}
+
+// Whole messages, padded by hand, against a library's digests.
+#[test]
+fn library_digests(rt: HostRuntime) {
+    let two_blocks = b"abcdbcdecdefdefgefghfghighijhijkijkljklmklmnlmnomnopnopq";
+    let mut first = [0; 64];
+    first[..56].copy_from_slice(two_blocks);
+    first[56] = 0x80;
+    let table: [(&[u8], [u32; 8]); 3] = [
+        (b"", compress(INITIAL, &block_of(b"\x80", 0))),
+        (b"abc", compress(INITIAL, &block_of(b"abc\x80", 24))),
+        (
+            two_blocks,
+            compress(compress(INITIAL, &first), &block_of(b"", 448)),
+        ),
+    ];
+    for (message, words) in table {
+        let mut bytes = [0; 32];
+        for (i, word) in words.iter().enumerate() {
+            bytes[4 * i..4 * i + 4].copy_from_slice(&word.to_be_bytes());
+        }
+        assert_eq!(rt; bytes, Sha256::digest(message));
+    }
 }

@@ -1,0 +1,6 @@
+pub mod Elements
+pub mod Counting
+pub mod Ordering
+pub mod Totals
+pub mod PathLemmas
+pub mod OrderLemmas
