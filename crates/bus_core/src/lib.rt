@@ -1,7 +1,7 @@
 //! The balance of the buses: whether each tuple is sent as often as it is received.
 #![tactic(auto)]
 
-ghost use Rattle.std.specs.Prelude.{◌≡◌, ◌≤◌, ◌↔◌, List, [], ◌∷◌, MatchOption, OnOk, OnErr, IsNone, IfSome, IsTrue};
+ghost use Rattle.std.specs.Prelude.{◌≡◌, ◌≤◌, ◌↔◌, List, [], ◌∷◌, OnOk, OnErr, IsNone, IfSome, IsTrue};
 ghost use Rattle.air_core.specs.declared.event.Event.{Event as AnEvent};
 ghost use Rattle.air_core.specs.Balance.{Balanced, IsEven, total};
 ghost use Rattle.air_core.specs.Sink.{Handed};
@@ -69,7 +69,7 @@ impl Balance {
 
     /// The first bus and tuple whose two sums differ, by the bus and then by the tuple.
     pub fn least_unbalanced(&self) -> Option<Unbalanced>
-        ensures balanced { (events : List AnEvent) → Holds self.now events → IsNone result ↔ Balanced events }
+        ensures balanced { (events : List AnEvent) → Holds self.now events → (IsNone result ↔ Balanced events) }
         ensures least { IfSome result (λ found. (events : List AnEvent) → Holds self.now events → IsLeastUnbalanced events found) }
     {
         let mut least = None;

@@ -1,0 +1,71 @@
+// Program rows, found by place and by pc.
+ghost use Rattle.std.specs.Prelude.{◌≡◌, ◌==◌, ◌↔◌, [], length, slice_get, find, position, IsTrue};
+
+use std::marker::Model;
+use vm_isa::VmInstr;
+
+/// The rows of a program in rising order of pc, seen as their list. The place of a row counts from 0.
+#[derive(Debug, Drop)]
+pub struct Program {
+    rows: Vec<VmInstr>,
+}
+
+impl Model for Program {
+    ghost use Rattle.std.specs.Prelude.{List};
+    ghost use Rattle.vm_isa.specs.declared.instr.VmInstr.{VmInstr as Row};
+
+    ghost Value = { List Row };
+
+    ghost use Rattle.vm_transpile.specs.Order.{RisesFrom};
+
+    ghost view = { λ program. program.rows.items };
+
+    ghost invariant = { λ program. RisesFrom 0 program.rows.items };
+}
+
+impl Program {
+    ghost use Rattle.vm_transpile.specs.Order.{RisesFrom};
+
+    pub(crate) fn new(rows: Vec<VmInstr>) -> Program
+        requires { RisesFrom 0 rows.items }
+        ensures { result ≡ rows.items }
+    {
+        Program { rows }
+    }
+
+    pub fn len(&self) -> u32
+        ensures { result ≡ length self.now }
+    {
+        self.rows.len() as u32
+    }
+
+    pub fn is_empty(&self) -> bool
+        ensures { IsTrue result ↔ (self.now ≡ []) }
+    {
+        self.rows.is_empty()
+    }
+
+    /// The row at a place.
+    pub fn at(&self, place: u32) -> Option<VmInstr>
+        ensures { result ≡ slice_get self.now place }
+    {
+        self.rows.get(place as usize).copied()
+    }
+
+    /// The row with this pc.
+    pub fn lookup(&self, pc: u32) -> Option<VmInstr>
+        ensures { result ≡ find (λ row. row.pc == pc) self.now }
+    {
+        self.at(self.place(pc)?)
+    }
+
+    /// The place of the row with this pc.
+    pub fn place(&self, pc: u32) -> Option<u32>
+        ensures { result ≡ position (λ row. row.pc == pc) self.now }
+    {
+        match self.rows.binary_search_by_key(&pc, |row| row.pc) {
+            Ok(place) => Some(place as u32),
+            Err(_) => None,
+        }
+    }
+}
