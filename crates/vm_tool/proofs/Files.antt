@@ -6,14 +6,14 @@ use Rattle.vm_host.specs.declared.Place.{Place}
 use Rattle.vm_host.specs.declared.ReadError.TheVariants.{TooLong}
 use Rattle.vm_host.specs.Names.{place_of}
 use Rattle.vm_host.specs.State.{HostState, Input, then_more}
-use Rattle.vm_host.specs.Calls.{Opens, Notes}
+use Rattle.vm_host.specs.Calls.{Opens, Notes, Rose}
 use Rattle.vm_host.specs.ReadUpTo.{Took, ReadsUpTo}
 use Rattle.elf_image.specs.declared.ImageError.{ImageError}
 use Rattle.elf_image.specs.declared.ImageError.TheVariants.{Short, Magic, Class, Order, FileType, Machine, Compressed, HeaderSize, HeaderTable, SegmentSize, Truncated, Range, Overlap, TextSize, Entry, OutOfMemory}
 use Rattle.elf_image.specs.Image.{IsRefused}
 use Rattle.vm_host.specs.declared.Slot.TheVariants.{Elf}
 use Rattle.vm_tool.specs.Files.{MAX_FILE, RefusesElf, refused, halt_of_image}
-use Rattle.vm_tool.specs.ReadFile.{Quiet, ReadWhole, HaltsAt}
+use Rattle.vm_tool.specs.ReadFile.{Quiet, ReadWhole, ReadNone, HaltsAt}
 use Rattle.vm_tool.proofs.Quiet.{long_content}
 
 noted_at_ok : {T : Type 0} (old new : Option (List (Place × List ℕ))) (pair : Place × List ℕ) (x : T) → Notes old new pair (Ok x) → new ≡ then_more old (pair ∷ [])
@@ -28,6 +28,14 @@ opened_then_took slot name bytes s t u x o a = record {
   frame = a.frame ∙ ap (λ (y : HostState). record y { faults = u.faults; input = u.input }) o.frame
       ∙ ap (λ n. record s { faults = u.faults; input = u.input; named = n }) (sym (ap (λ (y : HostState). y.named) a.frame));
 }
+
+-- a file of which nothing is made after it was opened
+pub opened_for_nothing : {T : Type 0} (slot : Slot) (name bytes : List ℕ) (s t u : HostState) (x : T) → Opens slot name s t (Ok x) → Took slot t u bytes → ReadNone slot name s u
+opened_for_nothing slot name bytes s t u x o a = record { count = 1; quiet = opened_then_took slot name bytes s t u x o a }
+
+-- a failure after a file was opened
+pub rose_after : (s t u : ℕ) → s ≤ t → Rose t u → Rose s u
+rose_after s t u later rose = omega (arith, rose, later)
 
 -- a file that is too long
 pub file_too_long : {T V : Type 0} (items : V → List ℕ) (slot : Slot) (name : List ℕ) (s t u : HostState) (x : T) → Opens slot name s t (Ok x) → ReadsUpTo items slot MAX_FILE t u (Err TooLong) → (bytes : List ℕ) × ReadWhole slot name s u bytes × (MAX_FILE < length bytes)

@@ -16,12 +16,14 @@ use Rattle.vm_tool.specs.declared.answer.Answer.TheVariants as answer
 use Rattle.vm_tool.specs.declared.answer.Status.{Status}
 use Rattle.vm_tool.specs.declared.answer.Status.TheVariants as status
 use Rattle.vm_tool.specs.Answer.{status_of, text_of}
-use Rattle.vm_tool.specs.Command.{Command, run, words_of, IsInLimits}
+use Rattle.vm_tool.specs.Command.{Command, run, transpile, words_of, IsInLimits}
 use Rattle.vm_tool.specs.Files.{MAX_FILE, GivesImage, RefusesElf, too_long, refused, RefusesHints}
+use Rattle.vm_tool.specs.TranspileCommand.{Lists, not_read, listed}
+use Rattle.vm_transpile.specs.Program.{program_of}
 use Rattle.vm_tool.specs.RunCommand.{answer_of_end, RunEnds, RunAnswers, elf_refused, hints_refused, ended, RunSays}
 use Rattle.vm_tool.specs.Says.{Says}
 use Rattle.vm_tool.specs.Outcome.{Outcome, answered, fault, memory}
-use Rattle.vm_tool.specs.Laws.{MeaningIsOne, RunAnswerIsOne, IsAnswered, RunIsDetermined, RefusedElfIsSaid, LongElfIsSaid, RunIsComplete, FaultHasCause}
+use Rattle.vm_tool.specs.Laws.{MeaningIsOne, RunAnswerIsOne, IsAnswered, RunIsDetermined, RefusedElfIsSaid, LongElfIsSaid, RunIsComplete, TranspileAnswerIsOne, TranspileIsDetermined, FaultHasCause}
 use Rattle.vm_tool.proofs.Quiet.{told_is}
 
 same_command : (a b : Command) → IsInLimits a → IsInLimits b → words_of a ≡ words_of b → a ≡ b
@@ -31,6 +33,9 @@ same_command (run elf hints steps) (run elf' hints' steps') h k e =
     let small' : steps' < 2 ^ 64 = omega arith in
     let n : steps ≡ steps' = decimal_injective steps steps' small small' d in
     cc
+same_command (run elf hints steps) (transpile elf') h k e = absurd cc
+same_command (transpile elf) (run elf' hints' steps') h k e = absurd cc
+same_command (transpile elf) (transpile elf') h k e = cc
 
 pub meaning_is_one : MeaningIsOne
 meaning_is_one words None None a b = refl
@@ -114,12 +119,31 @@ run_is_complete old new result elf hints e h shown limit steps code loaded a p q
     run_is_determined old new result elf hints e h limit (answer.Exit code shown steps) a p q quiet
     (ended (record { loaded = loaded; image = record { short = elf_short; image = image }; short = short; end = Ended steps code shown; ended = (within, ends); is = refl }))
 
+lists_are_one : (elf : List ℕ) (a b : Answer) → Lists elf a → Lists elf b → a ≡ b
+lists_are_one elf a b x y =
+    let loaded : x.loaded ≡ y.loaded = image_is_one elf x.loaded y.loaded x.image.image y.image.image in
+    x.is ∙ ap (λ l. answer.Listing (program_of l)) loaded ∙ sym y.is
+
+pub transpile_answer_is_one : TranspileAnswerIsOne
+transpile_answer_is_one elf a b (not_read x) (not_read y) = refusal_answer_is_one elf a b x y
+transpile_answer_is_one elf a b (not_read x) (listed y) = absurd (refused_alone elf a y.loaded x y.image)
+transpile_answer_is_one elf a b (listed x) (not_read y) = absurd (refused_alone elf b x.loaded y x.image)
+transpile_answer_is_one elf a b (listed x) (listed y) = lists_are_one elf a b x y
+
+pub transpile_is_determined : TranspileIsDetermined
+transpile_is_determined old new result elf e found a p quiet is =
+    answered_by (Some (transpile elf)) old new result found a.outcome quiet
+    (λ other says.
+    let one : e ≡ says.elf_bytes = told_is (old.content Elf elf) e says.elf_bytes p says.elf_told in
+    transpile_answer_is_one e other found (rw one says.is) is)
+
 no_fault_answer : (found : Answer) → status.HostFault ≡ status_of found → ⊥
 no_fault_answer answer.Words e = cc
 no_fault_answer answer.ElfTooLong e = cc
 no_fault_answer (answer.ElfRefused refusal) e = cc
 no_fault_answer answer.HintLimit e = cc
 no_fault_answer (answer.Exit code public_bytes steps) e = cc
+no_fault_answer (answer.Listing rows) e = cc
 no_fault_answer (answer.Trapped trap) e = cc
 no_fault_answer (answer.StepLimit limit) e = cc
 

@@ -3,5 +3,7 @@ pub mod Quiet
 pub mod Files
 pub mod Stages
 pub mod Runs
+pub mod Transpiles
+pub mod Listings
 pub mod Spoken
 pub mod LawLemmas

@@ -21,7 +21,7 @@ use Rattle.vm_tool.proofs.Quiet.{quiet_none, quiet_both, some_content, told_befo
 use Rattle.vm_tool.proofs.Stages.{halts, finds_quietly}
 
 -- a refusal is no success
-elf_not_done : (bytes : List ℕ) (found : Answer) → RefusesElf bytes found → status_of found ≡ Done → ⊥
+pub elf_not_done : (bytes : List ℕ) (found : Answer) → RefusesElf bytes found → status_of found ≡ Done → ⊥
 elf_not_done bytes found (too_long long is) d = cc (sym (ap status_of is) ∙ d)
 elf_not_done bytes found (refused error short r is) d = cc (sym (ap status_of is) ∙ d)
 

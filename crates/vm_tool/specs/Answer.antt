@@ -10,6 +10,7 @@ use Rattle.rv_run.specs.declared.outcome.Cause.TheVariants as cause
 use Rattle.vm_tool.specs.declared.answer.Answer.{Answer}
 use Rattle.vm_tool.specs.declared.answer.Answer.TheVariants as answer
 use Rattle.vm_tool.specs.declared.answer.Status.{Status}
+use Rattle.vm_tool.specs.Listing.{listing_of}
 use Rattle.vm_tool.specs.declared.answer.Status.TheVariants as status
 
 -- a refusal of a program file, in words; want of memory is none, and is never said
@@ -46,6 +47,7 @@ status_of answer.ElfTooLong = status.ElfRefused
 status_of (answer.ElfRefused refusal) = status.ElfRefused
 status_of answer.HintLimit = status.Limit
 status_of (answer.Exit code public_bytes steps) = status.Done
+status_of (answer.Listing rows) = status.Done
 status_of (answer.Trapped trap) = status.Trapped
 status_of (answer.StepLimit limit) = status.Limit
 
@@ -54,13 +56,14 @@ abbrev pub line_of_exit : ℕ → List ℕ → ℕ → List ℕ
 line_of_exit code digits steps =
     codes "exit " ++ decimal code ++ codes " public " ++ digits ++ codes " steps " ++ decimal steps ++ codes "\n"
 
--- the line that is said
+-- the line or lines that are said
 abbrev pub text_of : Answer → List ℕ
 text_of answer.Words = codes "words\n"
 text_of answer.ElfTooLong = codes "elf too-long\n"
 text_of (answer.ElfRefused refusal) = codes "elf " ++ refusal_text refusal ++ codes "\n"
 text_of answer.HintLimit = codes "limit hints 67108864\n"
 text_of (answer.Exit code public_bytes steps) = line_of_exit code (encode_lower public_bytes) steps
+text_of (answer.Listing rows) = listing_of rows
 text_of (answer.Trapped trap) =
     codes "trap " ++ cause_text trap.cause ++ codes " at " ++ encode_lower (to_be_bytes w32 trap.pc) ++ codes "\n"
 text_of (answer.StepLimit limit) = codes "limit steps " ++ decimal limit ++ codes "\n"

@@ -8,13 +8,17 @@ use Rattle.vm_host.specs.declared.Place.TheVariants as place
 pub data Command : Type 0 where
   -- run an ELF file on a hint file for at most this many steps
   run : List ℕ → List ℕ → ℕ → Command
+  -- list the program rows of an ELF file
+  transpile : List ℕ → Command
 
 -- the words of a command; a number is decimal digits, without sign or leading zero
 abbrev pub words_of : Command → List (List ℕ)
 words_of (run elf hints steps) = codes "run" ∷ elf ∷ hints ∷ decimal steps ∷ []
+words_of (transpile elf) = codes "transpile" ∷ elf ∷ []
 
 abbrev pub IsInLimits : Command → Type 0
 IsInLimits (run elf hints steps) = steps ≤ 1000000000
+IsInLimits (transpile elf) = Unit {0}
 
 -- the words are this command, or none
 abbrev pub Means : List (List ℕ) → Option Command → Type 0
@@ -24,3 +28,4 @@ Means words None = (command : Command) → IsInLimits command → words ≢ word
 -- the names that are handed to the host, in order
 abbrev pub names_of : Command → List (Place × List ℕ)
 names_of (run elf hints steps) = (place.Elf, elf) ∷ (place.Second, hints) ∷ []
+names_of (transpile elf) = (place.Elf, elf) ∷ []

@@ -12,9 +12,10 @@ use Rattle.vm_tool.specs.declared.answer.Answer.TheVariants as answer
 use Rattle.vm_tool.specs.declared.answer.Status.{Status}
 use Rattle.vm_tool.specs.declared.answer.Status.TheVariants as status
 use Rattle.vm_tool.specs.Answer.{status_of, text_of}
-use Rattle.vm_tool.specs.Command.{Command, Means, run}
+use Rattle.vm_tool.specs.Command.{Command, Means, run, transpile}
 use Rattle.vm_tool.specs.Files.{MAX_FILE}
 use Rattle.vm_tool.specs.RunCommand.{RunAnswers}
+use Rattle.vm_tool.specs.TranspileCommand.{TranspileAnswers}
 use Rattle.vm_tool.specs.Outcome.{Answers}
 
 -- words have one meaning
@@ -65,6 +66,19 @@ RunIsComplete = (old new : HostState) (result : Status) (elf hints elf_bytes hin
     → length elf_bytes ≤ MAX_FILE → HasImage elf_bytes loaded → length hint_bytes ≤ MAX_FILE
     → steps ≤ limit → Ends loaded hint_bytes steps code public_bytes
     → IsAnswered old new result (answer.Exit code public_bytes steps)
+
+-- a file has one answer to `transpile`
+abbrev pub TranspileAnswerIsOne : Type 0
+TranspileAnswerIsOne = (elf : List ℕ) (a b : Answer) → TranspileAnswers elf a → TranspileAnswers elf b → a ≡ b
+
+-- where the file is told and no fault is counted, `transpile` gives the answer that the file has
+abbrev pub TranspileIsDetermined : Type 0
+TranspileIsDetermined = (old new : HostState) (result : Status) (elf elf_bytes : List ℕ) (found : Answer)
+    → Answers (Some (transpile elf)) old new result
+    → old.content Elf elf ≡ Some elf_bytes
+    → (Rose old.faults new.faults → ⊥)
+    → TranspileAnswers elf_bytes found
+    → IsAnswered old new result found
 
 -- a host's fault is answered only where the host counted one
 abbrev pub FaultHasCause : Type 0

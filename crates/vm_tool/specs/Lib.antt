@@ -1,9 +1,11 @@
 pub mod Number
+pub mod Listing
 pub mod Answer
 pub mod Command
 pub mod Form
 pub mod Files
 pub mod RunCommand
+pub mod TranspileCommand
 pub mod Says
 pub mod Outcome
 pub mod ReadFile

@@ -1,10 +1,13 @@
 // What the program answers: a status and a line.
 ghost use Rattle.std.specs.Prelude.{◌≡◌, IfOk, string_bytes};
+ghost use Rattle.vm_tool.specs.Listing.{line_of_row, listing_of};
 ghost use Rattle.vm_tool.specs.Answer.{status_of, text_of, refusal_text, cause_text, line_of_exit, code_of};
 
 use elf_image::ImageError;
 use rv_run::{Cause, Trap};
 use std::alloc::{AllocError, Global};
+use vm_isa::VmInstr;
+use vm_transpile::Program;
 
 /// How the program ends.
 #[derive(Clone, Copy, Debug, PartialEq, Eq)]
@@ -33,7 +36,7 @@ impl Status {
 }
 
 /// What is found, before it is said.
-#[derive(Clone, Copy)]
+#[derive(Drop)]
 pub enum Answer {
     /// The words are no command.
     Words,
@@ -48,6 +51,8 @@ pub enum Answer {
         public: [u8; 64],
         steps: u64,
     },
+    /// The rows of the program.
+    Listing(Program),
     Trapped(Trap),
     /// One step more than the limit went on.
     StepLimit {
@@ -56,7 +61,7 @@ pub enum Answer {
 }
 
 /// Why the work ends early: an answer is found, or the host failed, or memory was refused.
-#[derive(Clone, Copy)]
+#[derive(Drop)]
 pub enum Halt {
     Found(Answer),
     Fault,
@@ -72,12 +77,12 @@ impl Answer {
             Answer::Words => Status::Words,
             Answer::ElfTooLong | Answer::ElfRefused(_) => Status::ElfRefused,
             Answer::HintLimit | Answer::StepLimit { .. } => Status::Limit,
-            Answer::Exit { .. } => Status::Done,
+            Answer::Exit { .. } | Answer::Listing(_) => Status::Done,
             Answer::Trapped(_) => Status::Trapped,
         }
     }
 
-    /// The line, with its newline.
+    /// The line or lines, each with its newline.
     pub fn text(&self, alloc: Global) -> Result<String, AllocError>
         ensures { IfOk result (λ text. string_bytes text ≡ text_of self.now) }
     {
@@ -97,6 +102,7 @@ impl Answer {
                 let digits = hex::encode(alloc, public.as_slice())?;
                 exit_line(alloc, *code, &digits, *steps)
             }
+            Answer::Listing(program) => listing(alloc, program),
             Answer::Trapped(Trap { cause, pc }) => {
                 let digits = hex::encode(alloc, pc.to_be_bytes().as_slice())?;
                 let cause = cause_name(*cause);
@@ -150,5 +156,33 @@ fn exit_line(alloc: Global, code: u8, digits: &str, steps: u64) -> Result<String
     let mut line = format!(in alloc; "exit {code} public {digits}")?;
     let end = format!(in alloc; " steps {steps}\n")?;
     line.push_str(&end)?;
+    Ok(line)
+}
+
+// The lines of a program's rows.
+fn listing(alloc: Global, program: &Program) -> Result<String, AllocError>
+    ensures { IfOk result (λ text. string_bytes text ≡ listing_of program.now) }
+{
+    let mut text = String::new(alloc);
+    for place in 0..program.len() {
+        if let Some(row) = program.at(place) {
+            let line = row_line(alloc, &row)?;
+            text.push_str(&line)?;
+        }
+    }
+    Ok(text)
+}
+
+#[tactic(auto, unfolding(vm_isa::specs::Instr::numbers_of))]
+fn row_line(alloc: Global, row: &VmInstr) -> Result<String, AllocError>
+    ensures { IfOk result (λ line. string_bytes line ≡ line_of_row row.now) }
+{
+    let mut line = hex::encode(alloc, row.pc.to_be_bytes().as_slice())?;
+    let numbers = row.numbers();
+    for number in &numbers[1..] {
+        let spaced = format!(in alloc; " {number}")?;
+        line.push_str(&spaced)?;
+    }
+    line.push_str("\n")?;
     Ok(line)
 }

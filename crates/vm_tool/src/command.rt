@@ -16,6 +16,9 @@ pub enum Form<'a> {
         hints: &'a str,
         steps: u64,
     },
+    Transpile {
+        elf: &'a str,
+    },
 }
 
 /// Reads the words. `None` is for words that are no command.
@@ -23,6 +26,7 @@ pub fn parse_words(words: &[String]) -> Option<Form<'_>>
     ensures { Means (map string_bytes words.now) (option_map command_of result) }
 {
     match words {
+        [name, first] => parse_two(name.as_str(), first.as_str()),
         [name, first, second, third] => parse_four(
             name.as_str(),
             first.as_str(),
@@ -30,6 +34,16 @@ pub fn parse_words(words: &[String]) -> Option<Form<'_>>
             third.as_str(),
         ),
         _ => None,
+    }
+}
+
+fn parse_two<'a>(name: &str, first: &'a str) -> Option<Form<'a>>
+    ensures { Means (name.now ∷ first.now ∷ []) (option_map command_of result) }
+{
+    if name == "transpile" {
+        Some(Form::Transpile { elf: first })
+    } else {
+        None
     }
 }
 

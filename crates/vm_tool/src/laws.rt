@@ -1,5 +1,5 @@
 // What follows from the contract of the top call.
-ghost use Rattle.vm_tool.specs.Laws.{FaultHasCause, LongElfIsSaid, MeaningIsOne, RefusedElfIsSaid, RunAnswerIsOne, RunIsComplete, RunIsDetermined};
+ghost use Rattle.vm_tool.specs.Laws.{FaultHasCause, LongElfIsSaid, MeaningIsOne, RefusedElfIsSaid, RunAnswerIsOne, RunIsComplete, RunIsDetermined, TranspileAnswerIsOne, TranspileIsDetermined};
 
 /// Words are one command, or none.
 pub fn meaning_is_one()
@@ -30,6 +30,17 @@ pub fn long_elf_is_said()
 /// A run that ends within its limit is answered with its end.
 pub fn run_is_complete()
     ensures { RunIsComplete }
+{}
+
+/// A file has one answer to `transpile`.
+pub fn transpile_answer_is_one()
+    ensures { TranspileAnswerIsOne }
+{}
+
+/// Over a host that tells its file and counts no fault, `transpile` gives the answer that the file
+/// has, unless memory was refused.
+pub fn transpile_is_determined()
+    ensures { TranspileIsDetermined }
 {}
 
 /// A host's fault is answered only where the host counted one.

@@ -10,11 +10,12 @@ mod run_command;
 #[cfg(test)]
 mod tests;
 mod tool;
+mod transpile_command;
 
 pub use answer::{Answer, Status};
 pub use laws::{
     fault_has_cause, long_elf_is_said, meaning_is_one, refused_elf_is_said, run_answer_is_one,
-    run_is_complete, run_is_determined,
+    run_is_complete, run_is_determined, transpile_answer_is_one, transpile_is_determined,
 };
 use std::alloc::AllocError;
 use std::process::ExitCode;

@@ -409,6 +409,9 @@ fn refused_words(rt: HostRuntime) -> Result<(), Fail> {
         "",
         "Run a b 1",
         "check a b",
+        "transpile",
+        "transpile a b",
+        "Transpile a",
     ];
     for line in rows {
         says(
@@ -504,6 +507,46 @@ fn linked_programs(rt: HostRuntime) -> Result<(), Fail> {
     longer.push(0)?;
     let text = exit_line(alloc, 0, "07", 2)?;
     says(&rt, longer, "run elf hints 2", Status::Done, &text)
+}
+
+#[test]
+fn listed_programs(rt: HostRuntime) -> Result<(), Fail> {
+    let alloc = rt.alloc();
+    let rows: [(&[u32], &str); 4] = [
+        (
+            &PUBLIC_SEVEN,
+            "00001000 1 5 0 0 1 1 7 0 0 0 0\n\
+             00001004 38 0 5 0 0 0 0 0 0 0 0\n\
+             00001008 41 0 0 0 0 0 0 0 0 0 0\n",
+        ),
+        // LW x0 at 1, and at 0
+        (
+            &[0x0010_2003, 0x0000_2003],
+            "00001000 13 0 0 0 0 0 1 0 0 0 0\n\
+             00001004 13 0 0 0 0 0 0 0 0 0 0\n",
+        ),
+        // ADDI x0, x0, 5; no instruction; JAL x1 to the word before it
+        (
+            &[0x0050_0013, 0xFFFF_FFFF, 0xFFDF_F0EF],
+            "00001000 39 0 0 0 0 0 0 0 0 0 0\n\
+             00001008 25 1 0 0 1 0 0 0 0 0 4100\n",
+        ),
+        (&[0xFFFF_FFFF], ""),
+    ];
+    for (words, text) in rows {
+        let elf = elf_of(alloc, words)?;
+        says(&rt, elf, "transpile elf", Status::Done, text)?;
+    }
+    let refused = changed(alloc, 0, 0)?;
+    says(
+        &rt,
+        refused,
+        "transpile elf",
+        Status::ElfRefused,
+        "elf magic\n",
+    )?;
+    let elf = elf_of(alloc, &PUBLIC_SEVEN)?;
+    says(&rt, elf, "transpile missing", Status::HostFault, "")
 }
 
 // Each call of the host fails in turn. There are six before the line is said: to open each file, to

@@ -8,6 +8,7 @@ ghost use Rattle.vm_tool.specs.Outcome.{Answers, Finds, Speaks, halt_of};
 use crate::answer::{Answer, Halt, Status};
 use crate::command::{Form, parse_words};
 use crate::run_command::find_run;
+use crate::transpile_command::find_transpile;
 use std::alloc::Global;
 use vm_host::{Host, HostError};
 
@@ -36,6 +37,7 @@ fn find<H: Host>(alloc: Global, form: Option<Form>, host: &mut H) -> Halt
     match form {
         None => Halt::Found(Answer::Words),
         Some(Form::Run { elf, hints, steps }) => halt(find_run(alloc, elf, hints, steps, host)),
+        Some(Form::Transpile { elf }) => halt(find_transpile(alloc, elf, host)),
     }
 }
 

@@ -1,3 +1,4 @@
 pub mod RowOrder
 pub mod Texts
+pub mod Forms
 pub mod Ranges

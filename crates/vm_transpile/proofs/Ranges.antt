@@ -1,5 +1,5 @@
 -- The rows of a file's program are in range.
-use Rattle.std.proofs.Common.{◌≡◌, ℕ, ◌+◌, ◌%◌, ◌^◌, ◌<◌, ◌≤◌, ◌==◌, Bool, true, false, List, All, length, get_or, cond, Option, None, Some, filter, refl, ap, subst, arith, ⊎_elim, Any}
+use Rattle.std.proofs.Common.{◌≡◌, ℕ, ◌+◌, ◌^◌, ◌<◌, ◌≤◌, List, All, length, get_or, Option, None, Some, filter, ap, subst, arith, ⊎_elim, Any}
 use Rattle.std.specs.Prelude.{◌&&◌, IfSome, nat_lt}
 use Rattle.std.proofs.lemmas.List.Sorted.{All-permutation}
 use Rattle.std.proofs.lemmas.Bool.{and_parts, cases_lt}
@@ -10,79 +10,14 @@ use Rattle.elf_image.specs.Image.{HasImage, in_file, load_of}
 use Rattle.elf_image.proofs.Members.{In, in_at, in_map, in_from_filter, All_in, place_in}
 use Rattle.elf_image.proofs.Loads.{word_stands, gives_true, bytes_within}
 use Rattle.rv_decode.specs.declared.instr.Instr.{Instr}
-use Rattle.rv_decode.specs.declared.instr.Instr.TheVariants.{Lui, AluImm, Terminate}
-use Rattle.rv_decode.specs.declared.instr.AluOp.TheVariants.{Add}
 use Rattle.rv_decode.specs.Ranges.{HasFieldsInRange}
 use Rattle.rv_decode.specs.Listing.{decode_of}
 use Rattle.rv_decode.proofs.ListingLemmas.{IfSome-decode_of}
-use Rattle.vm_isa.specs.declared.instr.VmInstr.{VmInstr}
 use Rattle.vm_isa.specs.Instr.{InRange}
-use Rattle.vm_transpile.specs.Rows.{row_of, nop_row, terminate_row}
 use Rattle.vm_transpile.specs.Program.{program_of}
 use Rattle.vm_transpile.specs.Laws.{RowsAreInRange}
+use Rattle.vm_transpile.proofs.Forms.{row_of-in_range}
 use Rattle.vm_transpile.proofs.Texts.{row_text, row_at-decoded, word_aligned}
-
-nop_in_range : (pc : ℕ) → pc % 4 ≡ 0 → pc < 2 ^ 29 → InRange (nop_row pc)
-nop_in_range pc aligned low = record {
-  opcode = refl;
-  aligned = aligned;
-  low = low;
-  rd = omega arith;
-  rs1 = omega arith;
-  rs2 = omega arith;
-  imm = record { four = refl; bytes = (omega arith, (omega arith, (omega arith, (omega arith, tt)))) };
-  target = omega arith;
-  alu = λ h. cc;
-  load = λ h. cc;
-  store = λ h. cc;
-  branch = λ h. cc;
-  jal = λ h. absurd (omega arith);
-  upper = λ h. cc;
-  jalr = λ h. absurd (omega arith);
-  mul = λ h. cc;
-  hint = λ h. absurd (omega arith);
-  reveal = λ h. absurd (omega arith);
-  nop = λ h. (refl, refl, refl, refl, refl, refl, refl);
-  sha = λ h. absurd (omega arith);
-  terminate = λ h. absurd (omega arith);
-}
-
-terminate_in_range : (pc code : ℕ) → pc % 4 ≡ 0 → pc < 2 ^ 29 → code < 256 → InRange (terminate_row pc code)
-terminate_in_range pc code aligned low byte = record {
-  opcode = refl;
-  aligned = aligned;
-  low = low;
-  rd = omega arith;
-  rs1 = omega arith;
-  rs2 = omega arith;
-  imm = record { four = refl; bytes = (byte, (omega arith, (omega arith, (omega arith, tt)))) };
-  target = omega arith;
-  alu = λ h. cc;
-  load = λ h. cc;
-  store = λ h. cc;
-  branch = λ h. cc;
-  jal = λ h. absurd (omega arith);
-  upper = λ h. cc;
-  jalr = λ h. absurd (omega arith);
-  mul = λ h. cc;
-  hint = λ h. absurd (omega arith);
-  reveal = λ h. absurd (omega arith);
-  nop = λ h. absurd (omega arith);
-  sha = λ h. absurd (omega arith);
-  terminate = λ h. (refl, refl, refl, refl, refl, (code, refl), refl);
-}
-
-nop_by : (pc : ℕ) (b : Bool) (row : VmInstr) → pc % 4 ≡ 0 → pc < 2 ^ 29 → cond b (Some (nop_row pc)) None ≡ Some row → InRange row
-nop_by pc true row aligned low e = let same : nop_row pc ≡ row = cc in subst InRange same (nop_in_range pc aligned low)
-nop_by pc false row aligned low e = cc
-
--- the row of an instruction whose fields are in their ranges
-row_of-in_range : (pc : ℕ) (instr : Instr) (row : VmInstr) → pc % 4 ≡ 0 → pc < 2 ^ 29 → HasFieldsInRange instr → row_of pc instr ≡ Some row → InRange row
-row_of-in_range pc (Lui rd imm) row aligned low fields e = nop_by pc (rd == 0) row aligned low e
-row_of-in_range pc (AluImm Add rd rs1 imm) row aligned low fields e = nop_by pc (rd == 0) row aligned low e
-row_of-in_range pc (Terminate code) row aligned low fields e =
-    let same : terminate_row pc code ≡ row = cc in subst InRange same (terminate_in_range pc code aligned low fields)
-row_of-in_range pc _ row aligned low fields e = cc
 
 any_in : {X : Type 0} (P : X → Type 0) (x : X) (xs : List X) → In x xs → P x → Any P xs
 any_in P x xs h p = let at = place_in x xs h in (at.0, x, at.1, at.2 x, p)
@@ -134,5 +69,5 @@ rows_in_range bytes loaded h =
     let text = row_text loaded row at in
     let word = word_aligned loaded text.0.pc text.0.word text.1 in
     let decoded = row_at-decoded text.0 row text.2 in
-    row_of-in_range text.0.pc decoded.0 row word.0 (word_low bytes loaded text.0.pc text.0.word h word.1)
-    (fields_in_range text.0.word (decode_of text.0.word) decoded.0 (IfSome-decode_of text.0.word) decoded.1) decoded.2)
+    subst InRange decoded.2 (row_of-in_range text.0.pc word.0 (word_low bytes loaded text.0.pc text.0.word h word.1) decoded.0
+    (fields_in_range text.0.word (decode_of text.0.word) decoded.0 (IfSome-decode_of text.0.word) decoded.1)))

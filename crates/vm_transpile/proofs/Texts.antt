@@ -1,7 +1,7 @@
 -- The rows of a text, and which words they are of.
 use Rattle.std.proofs.Common.{◌≡◌, ℕ, zero, suc, ◌+◌, ◌%◌, ◌^◌, ◌<◌, ◌≤◌, ◌==◌, Bool, true, false, List, [], ◌∷◌, ◌++◌, cond, take, slice_get, add-one, Option, None, Some, refl, sym, ◌∙◌, ap, inl, inr, subst, arith}
 use Rattle.std.specs.List.{filter_map, cons_option, AllByRecursion}
-use Rattle.std.specs.Option.{option_and_then}
+use Rattle.std.specs.Option.{option_and_then, option_map}
 use Rattle.std.proofs.lemmas.Bool.{eqb-true}
 use Rattle.std.proofs.lemmas.List.{append-nil}
 use Rattle.std.proofs.lemmas.List.Elements.{filter_map-append}
@@ -11,11 +11,10 @@ use Rattle.elf_image.proofs.Members.{In, in_from_Contains, Contains_from_in}
 use Rattle.elf_image.proofs.Text.{Words, text_stands, text_complete}
 use Rattle.elf_image.proofs.Images.{image_is_one}
 use Rattle.rv_decode.specs.declared.instr.Instr.{Instr}
-use Rattle.rv_decode.specs.declared.instr.Instr.TheVariants.{Lui, AluImm, Terminate}
-use Rattle.rv_decode.specs.declared.instr.AluOp.TheVariants.{Add}
+use Rattle.rv_decode.specs.declared.instr.Instr.TheVariants.{Lui, Auipc, AluImm, Alu, MulDiv}
 use Rattle.rv_decode.specs.Listing.{decode_of}
 use Rattle.vm_isa.specs.declared.instr.VmInstr.{VmInstr}
-use Rattle.vm_transpile.specs.Rows.{row_of, nop_row, terminate_row}
+use Rattle.vm_transpile.specs.Rows.{row_of, nop_row}
 use Rattle.vm_transpile.specs.Order.{RisesFrom}
 use Rattle.vm_transpile.specs.Program.{row_at, program_of}
 use Rattle.vm_transpile.specs.Laws.{RowsRise, RowsAreOfTheText, TheTextHasItsRows, ProgramIsOne}
@@ -65,26 +64,30 @@ all_in P (x ∷ xs) h = (h x (inl refl), all_in P xs (λ y k. h y (inr k)))
 
 -- a row has the pc of its instruction
 
-pc_by : (pc : ℕ) (b : Bool) (row : VmInstr) → cond b (Some (nop_row pc)) None ≡ Some row → row.pc ≡ pc
-pc_by pc true row e = let same : nop_row pc ≡ row = cc in ap (λ (r : VmInstr). r.pc) (sym same)
-pc_by pc false row e = cc
+or_nop-pc : (row : VmInstr) (b : Bool) → (cond b (nop_row row.pc) row).pc ≡ row.pc
+or_nop-pc row true = refl
+or_nop-pc row false = refl
 
-row_of-pc : (pc : ℕ) (instr : Instr) (row : VmInstr) → row_of pc instr ≡ Some row → row.pc ≡ pc
-row_of-pc pc (Lui rd imm) row e = pc_by pc (rd == 0) row e
-row_of-pc pc (AluImm Add rd rs1 imm) row e = pc_by pc (rd == 0) row e
-row_of-pc pc (Terminate code) row e = let same : terminate_row pc code ≡ row = cc in ap (λ (r : VmInstr). r.pc) (sym same)
-row_of-pc pc _ row e = cc
+row_of-pc : (pc : ℕ) (instr : Instr) → (row_of pc instr).pc ≡ pc
+row_of-pc pc (Lui rd imm) = or_nop-pc _ (rd == 0)
+row_of-pc pc (Auipc rd imm) = or_nop-pc _ (rd == 0)
+row_of-pc pc (AluImm op rd rs1 imm) = or_nop-pc _ (rd == 0)
+row_of-pc pc (Alu op rd rs1 rs2) = or_nop-pc _ (rd == 0)
+row_of-pc pc (MulDiv op rd rs1 rs2) = or_nop-pc _ (rd == 0)
+row_of-pc pc _ = refl
 
-decoded_by : (pc : ℕ) (o : Option Instr) (row : VmInstr) → option_and_then (row_of pc) o ≡ Some row → (instr : Instr) × (o ≡ Some instr) × (row_of pc instr ≡ Some row)
+decoded_by : (pc : ℕ) (o : Option Instr) (row : VmInstr) → option_map (row_of pc) o ≡ Some row → (instr : Instr) × (o ≡ Some instr) × (row_of pc instr ≡ row)
 decoded_by pc None row e = cc
-decoded_by pc (Some instr) row e = (instr, refl, e)
+decoded_by pc (Some instr) row e = (instr, refl, cc)
 
 -- the instruction of a word that has a row
-pub row_at-decoded : (text : TextWord) (row : VmInstr) → row_at text ≡ Some row → (instr : Instr) × (decode_of text.word ≡ Some instr) × (row_of text.pc instr ≡ Some row)
+pub row_at-decoded : (text : TextWord) (row : VmInstr) → row_at text ≡ Some row → (instr : Instr) × (decode_of text.word ≡ Some instr) × (row_of text.pc instr ≡ row)
 row_at-decoded text row e = decoded_by text.pc (decode_of text.word) row e
 
 pub row_at-pc : (text : TextWord) (row : VmInstr) → row_at text ≡ Some row → row.pc ≡ text.pc
-row_at-pc text row e = let d = row_at-decoded text row e in row_of-pc text.pc d.0 row d.2
+row_at-pc text row e =
+    let d = row_at-decoded text row e in
+    ap (λ (r : VmInstr). r.pc) (sym d.2) ∙ row_of-pc text.pc d.0
 
 aligned_by : (loaded : Loaded) (pc x : ℕ) (b : Bool) → (pc % 4 == 0) ≡ b → cond b (word_in loaded.loads pc) None ≡ Some x → (pc % 4 ≡ 0) × (word_in loaded.loads pc ≡ Some x)
 aligned_by loaded pc x true e h = (eqb-true (pc % 4) 0 e, h)

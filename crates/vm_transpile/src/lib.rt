@@ -1,8 +1,10 @@
-//! The program of an image: a row for each text word that is an instruction with one.
+//! The program of an image: a row for each text word that is an instruction.
 #![tactic(auto)]
 
 pub mod laws;
+mod operation;
 mod program;
+mod row;
 #[cfg(test)]
 mod tests;
 mod text;
