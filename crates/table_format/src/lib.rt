@@ -1,0 +1,91 @@
+//! The file of a run's tables: what it says, its one spelling, and a reader over a host.
+#![tactic(auto)]
+
+ghost use Rattle.std.specs.Prelude.{◌≡◌};
+ghost use Rattle.table_format.specs.declared.TableError.TheVariants.{OutOfMemory};
+ghost use Rattle.table_format.specs.Reading.{error_of};
+
+pub mod laws;
+mod reader;
+mod source;
+#[cfg(test)]
+mod tests;
+mod writer;
+
+pub use reader::read_file;
+use std::alloc::{AllocError, AllocFailed};
+use thiserror::Error;
+use vm_field::Fe;
+use vm_host::HostError;
+pub use writer::spelling;
+
+/// Where a run starts and ends. Each number is below the field's modulus.
+#[derive(Clone, Copy, Debug, PartialEq, Eq)]
+pub struct Connector {
+    pub pc_start: u32,
+    pub pc_end: u32,
+    /// The time behind the last step.
+    pub end_time: u32,
+}
+
+/// How often the row at a place of the program is used.
+#[derive(Clone, Copy, Debug, PartialEq, Eq)]
+pub struct CountEntry {
+    pub place: u32,
+    pub count: u32,
+}
+
+/// What a file says.
+#[derive(Drop)]
+pub struct TableFile {
+    pub connector: Connector,
+    /// 0 where there are no rows, and k where there are 2^(k-1).
+    pub height_code: u8,
+    /// The rows of the table of no-operations.
+    pub rows: Vec<[Fe; 3]>,
+    /// How often the rows of the program are used, where they are.
+    pub entries: Vec<CountEntry>,
+    /// The code that the run is said to exit with.
+    pub exit_code: u8,
+}
+
+/// Why a file wasn't read.
+#[derive(Clone, Copy, Debug, PartialEq, Eq, Error)]
+pub enum TableError {
+    /// The bytes are no file of this form.
+    #[error("the bytes are no table file")]
+    Refused,
+    /// A read was refused with a fault.
+    #[error("the input could not be read")]
+    Fault,
+    /// Memory ran out, here or in the host.
+    #[error("out of memory")]
+    OutOfMemory,
+}
+
+impl From<HostError> for TableError {
+    ghost from_gives = { λ cause error. error ≡ error_of cause };
+
+    fn from(cause: HostError) -> TableError {
+        match cause {
+            HostError::Failed => TableError::Fault,
+            HostError::OutOfMemory => TableError::OutOfMemory,
+        }
+    }
+}
+
+impl From<AllocError> for TableError {
+    ghost from_gives = { λ _ error. error ≡ OutOfMemory };
+
+    fn from(_error: AllocError) -> TableError {
+        TableError::OutOfMemory
+    }
+}
+
+impl<T: Drop> From<AllocFailed<T>> for TableError {
+    ghost from_gives = { λ _ error. error ≡ OutOfMemory };
+
+    fn from(_error: AllocFailed<T>) -> TableError {
+        TableError::OutOfMemory
+    }
+}
