@@ -26,11 +26,11 @@ pub record Begun {W : Type 0} (Good : W → Type 0) (text : W → List ℕ) (Fit
 pub record Next {W X : Type 0} (Good Fits : W → Type 0) (left : W → List ℕ) (GoodX : X → Type 0) (textX : X → List ℕ) (part : W → X) (behind : W → List ℕ) : Type 0 where
   pub at : (w : W) → Good w → Fits w → GoodX (part w) × (left w ≡ textX (part w) ++ behind w)
 
-pub told_rest : (told later : Option (List ℕ)) (text rest : List ℕ) → told ≡ after_these text later → told ≡ Some rest → (r : List ℕ) × (later ≡ Some r) × (text ++ r ≡ rest)
+told_rest : (told later : Option (List ℕ)) (text rest : List ℕ) → told ≡ after_these text later → told ≡ Some rest → (r : List ℕ) × (later ≡ Some r) × (text ++ r ≡ rest)
 told_rest told None text rest e is = absurd cc
 told_rest told (Some r) text rest e is = (r, refl, let same : Some (text ++ r) ≡ Some rest = sym e ∙ is in let inner : text ++ r ≡ rest = cc in inner)
 
-rose_later : (a b c : ℕ) → a ≤ b → Rose b c → Rose a c
+pub rose_later : (a b c : ℕ) → a ≤ b → Rose b c → Rose a c
 rose_later a b c le rose = omega arith
 
 -- an error that is known

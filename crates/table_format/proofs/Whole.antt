@@ -1,12 +1,11 @@
 -- A whole file.
-use Rattle.std.proofs.Common.{◌≡◌, ℕ, ◌<◌, List, [], ◌∷◌, ◌++◌, length, true, ◌≤◌, refl, sym, ap, subst, ◌∙◌, append_assoc, arith}
+use Rattle.std.proofs.Common.{◌≡◌, ℕ, ◌<◌, List, [], ◌∷◌, ◌++◌, length, true, refl, sym, ap, subst, ◌∙◌, append_assoc, arith}
 use Rattle.std.specs.Prelude.{None, Some, Ok, Err, Result, IsErrAnd, IfSome}
 use Rattle.std.specs.declared.option.Option.{Option}
 use Rattle.std.specs.List.{flat_map}
 use Rattle.std.proofs.lemmas.List.{append-nil, append_cancel_left}
 use Rattle.vm_host.specs.declared.Slot.TheVariants.{Second}
 use Rattle.vm_host.specs.State.{HostState}
-use Rattle.vm_host.specs.Calls.{Rose}
 use Rattle.vm_host.specs.ReadUpTo.{Took}
 use Rattle.vm_host.proofs.Reading.{took_both, whole_at_end}
 use Rattle.table_format.specs.declared.Connector.{Connector}
@@ -17,7 +16,7 @@ use Rattle.table_format.specs.declared.TableError.TheVariants.{Refused, Fault}
 use Rattle.table_format.specs.Reading.{Gives, Ends, ReadsFile}
 use Rattle.table_format.specs.File.{FileValue, value_of, spelling, head_text, connector_row, row_text, entry_text, number_text, counts_text, height_of, IsFile, IsNumber, IsByte, IsRow, AreRows, AreEntries}
 use Rattle.table_format.proofs.Texts.{Once, number_once, byte_once, row_once, rows_once, entries_once}
-use Rattle.table_format.proofs.Steps.{Begun, Next, begun_first, begun_more, begun_refused, begun_stops}
+use Rattle.table_format.proofs.Steps.{Begun, Next, begun_first, begun_more, begun_refused, begun_stops, rose_later}
 
 -- What is left of a file's text behind each part.
 
@@ -149,9 +148,6 @@ file_stops m s t e (Err d) g is = record {
   fault = g.fault;
 }
 
-rose_later : (a b c : ℕ) → a ≤ b → Rose b c → Rose a c
-rose_later a b c le rose = omega arith
-
 pub part_stops : {V X : Type 0} (m : ℕ) (Fits : FileValue → Type 0) (left : FileValue → List ℕ) (view : V → X) (GoodX : X → Type 0) (textX : X → List ℕ) (part : FileValue → X) (behind : FileValue → List ℕ) (s t u : HostState) (bytes : List ℕ) (e : TableError) (result : Result TableFile TableError)
     → Next (IsFile m) Fits left GoodX textX part behind → Begun (IsFile m) spelling Fits left s t bytes → Gives view GoodX textX t u (Err e) → IsErrAnd result (λ d. d ≡ e) → ReadsFile m s u result
 part_stops m Fits left view GoodX textX part behind s t u bytes e result next b g is =
@@ -184,7 +180,7 @@ regroup a b c d e f g =
     ∙ append_assoc (a ++ b) c (d ++ (e ++ (f ++ g)))
     ∙ append_assoc a b (c ++ (d ++ (e ++ (f ++ g))))
 
-pub told_whole : (told : Option (List ℕ)) (xs ys : List ℕ) → IfSome told (λ rest. xs ≡ rest) → xs ≡ ys → IfSome told (λ rest. rest ≡ ys)
+told_whole : (told : Option (List ℕ)) (xs ys : List ℕ) → IfSome told (λ rest. xs ≡ rest) → xs ≡ ys → IfSome told (λ rest. rest ≡ ys)
 told_whole None xs ys p e = tt
 told_whole (Some rest) xs ys p e = sym p ∙ e
 
