@@ -111,7 +111,7 @@ is_nop r instr op are =
 meaning : (r : NopRow) (instr : VmInstr) → IsNop r instr → instr.pc < 2 ^ 29 → IsMeaning instr [] (field_add r.pc 4)
 meaning r instr is low =
     let next : instr.pc + 4 ≡ field_add r.pc 4 = rw is.pc (omega arith) in
-    ([], means_of-nop instr [] [] is.op ∙ rw next refl)
+    ([], means_of-nop instr [] [] is.op low ∙ rw next refl)
 
 step : (hi : ℕ) (r : NopRow) → Below r → nop_valid r ≡ 1 → r.nop ≡ 1 → Good (counted (nop_lines r))
     → SoundStep (λ op. nat_eq op 39) 1 (16 + hi) (counted (nop_lines r))

@@ -3,7 +3,7 @@ use Rattle.std.proofs.Common.{false, [], ◌∷◌, refl, lit<, lit≤}
 use Rattle.vm_isa.specs.declared.instr.VmInstr.{VmInstr}
 use Rattle.vm_isa.specs.declared.record.StepRecord.{StepRecord}
 use Rattle.vm_isa.specs.Instr.{InRange}
-use Rattle.vm_isa.specs.Means.{Fillable, means_of}
+use Rattle.vm_isa.specs.Means.{Fillable, means_of, is_refused, bars_first, bars_second, places_by, accessed_by, next_of}
 
 abbrev pub fence : VmInstr
 fence = record { pc = 4096; op = 39; rd = 0; rs1 = 0; rs2 = 0; write = false; use_imm = false; imm = 0 ∷ 0 ∷ 0 ∷ 0 ∷ []; target = 0 }
@@ -37,7 +37,7 @@ abbrev pub fence_record : StepRecord
 fence_record = record { instr = fence; time = 1; accesses = []; next = 4100 }
 
 pub fence_fillable : Fillable 24 fence_record
-unfolding means_of
+unfolding means_of is_refused bars_first bars_second places_by accessed_by next_of
 fence_fillable = record {
   in_range = fence_in_range;
   words = tt;

@@ -5,14 +5,20 @@
 mod access;
 mod accesses;
 mod instr;
+pub mod laws;
+mod meaning;
 pub mod opcode;
 mod record;
+mod results;
 #[cfg(test)]
 mod tests;
+mod writes;
 
 pub use access::{Access, TimedAccess};
 pub use accesses::{AccessList, MAX_ACCESSES};
 pub use instr::VmInstr;
+pub use meaning::{NextAccess, next_access, next_pc};
 pub use opcode::slots;
 pub use record::StepRecord;
 pub use std::alloc::AllocError as OutOfMemory;
+pub use writes::new_word;

@@ -1,4 +1,4 @@
-//! The slots and the program rows were written down by hand.
+//! The slots, the program rows and the accesses were written down by hand.
 
 use super::opcode::*;
 use super::*;
@@ -102,5 +102,189 @@ fn accesses_in_order(rt: HostRuntime) -> Result<(), Fail> {
     assert_eq!(rt; list.at(0), Some(write_of_register(5)));
     assert_eq!(rt; list.at(1).map(|a| a.access.pointer), Some(28));
     assert_eq!(rt; list.at(2), None);
+    Ok(())
+}
+
+fn row(op: u8, write: bool, use_imm: bool, imm: [u8; 4]) -> VmInstr {
+    VmInstr {
+        pc: 4096,
+        op,
+        rd: 5,
+        rs1: 6,
+        rs2: 7,
+        write,
+        use_imm,
+        imm,
+        target: 8192,
+    }
+}
+
+fn at(slot: u32, space: u8, pointer: u32) -> NextAccess {
+    NextAccess::At {
+        slot,
+        space,
+        pointer,
+    }
+}
+
+const NONE: [u8; 4] = [0; 4];
+
+const MINUS_TWO: [u8; 4] = [254, 255, 255, 255];
+/// 2^29.
+const HIGH: [u8; 4] = [0, 0, 0, 32];
+
+#[test]
+fn accesses_of_forms(rt: HostRuntime) -> Result<(), Fail> {
+    let table: [(VmInstr, &[[u8; 4]], NextAccess); 24] = [
+        (row(ADD, true, false, NONE), &[], at(0, 1, 24)),
+        (row(ADD, true, false, NONE), &[NONE], at(1, 1, 28)),
+        (row(ADD, true, true, NONE), &[NONE], at(2, 1, 20)),
+        (
+            row(REMU, true, false, NONE),
+            &[NONE, NONE, NONE],
+            NextAccess::Done,
+        ),
+        // 8193 - 2 is in the block at 8188
+        (
+            row(LB, true, false, MINUS_TWO),
+            &[[1, 32, 0, 0]],
+            at(1, 2, 8188),
+        ),
+        (
+            row(LH, true, false, NONE),
+            &[[1, 32, 0, 0]],
+            NextAccess::NoMeaning,
+        ),
+        (
+            row(LW, false, false, NONE),
+            &[[0, 32, 0, 0]],
+            at(1, 2, 8192),
+        ),
+        (row(LW, false, false, NONE), &[NONE, NONE], NextAccess::Done),
+        (row(LBU, true, false, NONE), &[HIGH], NextAccess::NoMeaning),
+        (
+            row(SB, false, false, MINUS_TWO),
+            &[[1, 32, 0, 0], NONE],
+            at(2, 2, 8188),
+        ),
+        (
+            row(SW, false, false, NONE),
+            &[[2, 0, 0, 0]],
+            NextAccess::NoMeaning,
+        ),
+        (row(BEQ, false, false, NONE), &[NONE], at(1, 1, 28)),
+        (row(JAL, true, false, NONE), &[], at(0, 1, 20)),
+        (row(JAL, false, false, NONE), &[], NextAccess::Done),
+        (row(AUIPC, true, false, NONE), &[NONE], NextAccess::Done),
+        (row(JALR, true, false, NONE), &[[3, 0, 0, 0]], at(1, 1, 20)),
+        (row(JALR, true, false, NONE), &[HIGH], NextAccess::NoMeaning),
+        (row(HINT, false, false, NONE), &[[4, 0, 0, 0]], at(1, 2, 4)),
+        (
+            row(REVEAL, false, false, NONE),
+            &[[64, 0, 0, 0], NONE],
+            at(2, 3, 64),
+        ),
+        (row(NOP, false, false, NONE), &[], NextAccess::Done),
+        (row(NOP, false, false, NONE), &[NONE], NextAccess::NoMeaning),
+        // the block's words first, then the state's; neither has to be aligned
+        (
+            row(SHA, false, false, NONE),
+            &[[1, 0, 0, 0], [2, 0, 0, 0], NONE],
+            at(3, 2, 6),
+        ),
+        (
+            row(SHA, false, false, NONE),
+            &[[1, 0, 0, 0], HIGH],
+            NextAccess::NoMeaning,
+        ),
+        (
+            row(TERMINATE, false, false, NONE),
+            &[],
+            NextAccess::NoMeaning,
+        ),
+    ];
+    for (instr, old, wanted) in &table {
+        assert_eq!(rt; next_access(instr, old), *wanted, "opcode {}", instr.op);
+    }
+    let mut words = [[1, 0, 0, 0]; 26];
+    let sha = row(SHA, false, false, NONE);
+    assert_eq!(rt; next_access(&sha, &words[..18]), at(18, 2, 1));
+    assert_eq!(rt; next_access(&sha, &words[..25]), at(25, 2, 29));
+    assert_eq!(rt; next_access(&sha, &words), NextAccess::Done);
+    words[0] = HIGH;
+    assert_eq!(rt; next_access(&sha, &words), NextAccess::NoMeaning);
+    Ok(())
+}
+
+#[test]
+fn words_and_pcs_of_forms(rt: HostRuntime) -> Result<(), Fail> {
+    let table: [(VmInstr, &[[u8; 4]], u32, [u8; 4], u32); 8] = [
+        (
+            row(ADD, true, true, MINUS_TWO),
+            &[[1, 0, 0, 0], NONE],
+            1,
+            [255; 4],
+            4100,
+        ),
+        // the byte at 8191 is the last of its block
+        (
+            row(LB, true, false, MINUS_TWO),
+            &[[1, 32, 0, 0], [1, 2, 3, 128], NONE],
+            2,
+            [128, 255, 255, 255],
+            4100,
+        ),
+        (
+            row(SH, false, false, NONE),
+            &[[2, 32, 0, 0], [9, 8, 7, 6], [1, 2, 3, 4]],
+            2,
+            [1, 2, 9, 8],
+            4100,
+        ),
+        (
+            row(BLTU, false, false, NONE),
+            &[[1, 0, 0, 0], [2, 0, 0, 0]],
+            0,
+            [1, 0, 0, 0],
+            8192,
+        ),
+        (row(JAL, true, false, NONE), &[NONE], 0, [4, 16, 0, 0], 8192),
+        (
+            row(JALR, true, false, NONE),
+            &[[3, 0, 0, 0], NONE],
+            1,
+            [4, 16, 0, 0],
+            2,
+        ),
+        (
+            row(HINT, false, false, NONE),
+            &[NONE, NONE],
+            1,
+            [5, 6, 7, 8],
+            4100,
+        ),
+        (
+            row(REVEAL, false, false, NONE),
+            &[NONE, [1, 2, 3, 4], NONE],
+            2,
+            [1, 2, 3, 4],
+            4100,
+        ),
+    ];
+    for (instr, old, number, word, pc) in &table {
+        assert!(rt; (*number as usize) < old.len());
+        match next_access(instr, old) {
+            NextAccess::Done => {
+                assert_eq!(rt;
+                    new_word(instr, old, *number, [5, 6, 7, 8]),
+                    *word,
+                    "opcode {}",
+                    instr.op
+                );
+                assert_eq!(rt; next_pc(instr, old), *pc, "opcode {}", instr.op);
+            }
+            _ => assert!(rt; false, "opcode {}", instr.op),
+        }
+    }
     Ok(())
 }

@@ -1,0 +1,19 @@
+//! What `next_access` says of the meanings. Each function is empty: its contract is the law.
+ghost use Rattle.vm_isa.specs.Laws.{DoneIsAMeaning, NextIsTheMeanings, NoMeaningIsFinal};
+
+/// After `NoMeaning` no further words make a meaning.
+#[tactic(auto, using(crate::proofs::NextLaws::no_meaning_is_final))]
+pub fn no_meaning_is_final()
+    ensures { NoMeaningIsFinal }
+{}
+
+/// `Done` is the answer exactly at the words of a meaning.
+pub fn done_is_a_meaning()
+    ensures { DoneIsAMeaning }
+{}
+
+/// `At` is the place of the next access in each meaning with these first words.
+#[tactic(auto, using(crate::proofs::NextLaws::next_is_the_meanings))]
+pub fn next_is_the_meanings()
+    ensures { NextIsTheMeanings }
+{}
