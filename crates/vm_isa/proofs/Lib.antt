@@ -4,5 +4,6 @@ pub mod PlaceLaws
 pub mod FormLaws
 pub mod MeansLaws
 pub mod NextLaws
+pub mod LeftLaws
 pub mod NewLaws
 pub mod Example

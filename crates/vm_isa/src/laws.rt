@@ -1,10 +1,16 @@
 //! What `next_access` says of the meanings. Each function is empty: its contract is the law.
-ghost use Rattle.vm_isa.specs.Laws.{DoneIsAMeaning, NextIsTheMeanings, NoMeaningIsFinal};
+ghost use Rattle.vm_isa.specs.Laws.{DoneIsAMeaning, ElseMeaningIsLeft, NextIsTheMeanings, NoMeaningIsFinal};
 
 /// After `NoMeaning` no further words make a meaning.
 #[tactic(auto, using(crate::proofs::NextLaws::no_meaning_is_final))]
 pub fn no_meaning_is_final()
     ensures { NoMeaningIsFinal }
+{}
+
+/// Where the answer isn't `NoMeaning`, some further words make a meaning of an instruction in range.
+#[tactic(auto, using(crate::proofs::LeftLaws::else_meaning_is_left))]
+pub fn else_meaning_is_left()
+    ensures { ElseMeaningIsLeft }
 {}
 
 /// `Done` is the answer exactly at the words of a meaning.
