@@ -1,13 +1,10 @@
 -- Parts of an instruction word (RISC-V Unprivileged ISA 20191213, sections 2.2 and 2.3).
-use Rattle.std.specs.Prelude.{ℕ, ◌+◌, ◌-◌, ◌*◌, ◌/◌, ◌%◌, ◌^◌, nat_lt, if◌then◌else◌}
+use Rattle.std.specs.Prelude.{ℕ, ◌+◌, ◌-◌, ◌*◌, ◌/◌, ◌%◌, ◌^◌}
+use Rattle.vm_word.specs.Arithmetic.{sign_extended}
 
 -- bits high to low, as a number
 abbrev pub bits : ℕ → ℕ → ℕ → ℕ
 bits high low word = word / 2 ^ low % 2 ^ (high + 1 - low)
-
--- a number of this width in two's complement, as a word
-abbrev pub sign_extended : ℕ → ℕ → ℕ
-sign_extended width number = if nat_lt number (2 ^ (width - 1)) then number else number + (2 ^ 32 - 2 ^ width)
 
 abbrev pub opcode_of : ℕ → ℕ
 opcode_of word = bits 6 0 word

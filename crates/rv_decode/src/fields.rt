@@ -1,6 +1,8 @@
 //! The fields and the immediates of an instruction word.
 ghost use Rattle.std.specs.Prelude.{◌≡◌, ◌-◌, ◌≤◌, ◌<◌, ◌^◌};
-ghost use Rattle.rv_decode.specs.Bits.{bits, sign_extended, opcode_of, rd_of, funct3_of, rs1_of, rs2_of, funct7_of, i_immediate, s_immediate, b_immediate, u_immediate, j_immediate};
+ghost use Rattle.rv_decode.specs.Bits.{bits, opcode_of, rd_of, funct3_of, rs1_of, rs2_of, funct7_of, i_immediate, s_immediate, b_immediate, u_immediate, j_immediate};
+
+use vm_word::arithmetic::sign_extend;
 
 pub fn opcode(word: u32) -> u32
     ensures { result ≡ opcode_of word }
@@ -79,17 +81,4 @@ fn bits(word: u32, high: u32, low: u32) -> u32
     ensures { result ≡ bits high low word }
 {
     ((word as u64 >> low) % (1 << (high + 1 - low))) as u32
-}
-
-fn sign_extend(width: u32, number: u32) -> u32
-    requires some { 0 < width }
-    requires most { width < 32 }
-    requires fits { number < 2 ^ width }
-    ensures { result ≡ sign_extended width number }
-{
-    if number < 1 << (width - 1) {
-        number
-    } else {
-        number + (u32::MAX - ((1 << width) - 1))
-    }
 }

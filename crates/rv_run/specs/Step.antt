@@ -3,7 +3,7 @@
 use Rattle.std.specs.Prelude.{ℕ, ◌+◌, ◌-◌, ◌*◌, ◌%◌, ◌^◌, List, [], ◌∷◌, ◌++◌, length, take, drop, map, slice_index, slice_set, Bool, true, ◌&&◌, not, ◌==◌, nat_le, nat_lt, Option, None, Some, if◌then◌else◌, bit_and, bit_or, bit_xor}
 use Rattle.std.specs.List.{range_with_len}
 use Rattle.byteorder.specs.Endian.{little_bytes}
-use Rattle.vm_word.specs.Arithmetic.{word_sum, word_difference, signed_less, shifted_left, shifted_right, shifted_right_signed, low_product, high_product, high_product_signed, high_product_mixed, quotient, quotient_signed, remainder, remainder_signed}
+use Rattle.vm_word.specs.Arithmetic.{word_sum, word_difference, sign_extended, signed_less, shifted_left, shifted_right, shifted_right_signed, low_product, high_product, high_product_signed, high_product_mixed, quotient, quotient_signed, remainder, remainder_signed}
 use Rattle.sha_words.specs.Sha256.{compress}
 use Rattle.rv_decode.specs.declared.instr.Instr.{Instr}
 use Rattle.rv_decode.specs.declared.instr.Instr.TheVariants.{Lui, Auipc, Jal, Jalr, Branch, Load, Store, AluImm, Alu, MulDiv, Fence, Terminate, HintStore, Reveal, ShaBlock}
@@ -17,7 +17,6 @@ use Rattle.rv_decode.specs.declared.instr.AluOp.{AluOp}
 use Rattle.rv_decode.specs.declared.instr.AluOp.TheVariants.{Add, Sub, Sll, Slt, Sltu, Xor, Srl, Sra, Or, And}
 use Rattle.rv_decode.specs.declared.instr.MulDivOp.{MulDivOp}
 use Rattle.rv_decode.specs.declared.instr.MulDivOp.TheVariants.{Mul, Mulh, Mulhsu, Mulhu, Div, Divu, Rem, Remu}
-use Rattle.rv_decode.specs.Bits.{sign_extended}
 use Rattle.rv_decode.specs.Listing.{decode_of}
 use Rattle.elf_image.specs.Loaded.{Loaded, word_of}
 use Rattle.rv_run.specs.declared.outcome.Cause.{Cause}

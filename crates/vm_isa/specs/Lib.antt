@@ -4,4 +4,5 @@ pub mod Slots
 pub mod Instr
 pub mod Results
 pub mod Means
+pub mod Blocks
 pub mod Laws

@@ -1,7 +1,7 @@
 -- What opcodes make of words (RISC-V Unprivileged ISA 20191213, the section beside each).
 use Rattle.std.specs.Prelude.{ℕ, ◌+◌, ◌-◌, ◌%◌, ◌^◌, Bool, not, nat_eq, nat_lt, if◌then◌else◌, List, ◌++◌, take, drop, bit_and, bit_or, bit_xor}
 use Rattle.vm_word.specs.Word.{word_of_limbs}
-use Rattle.vm_word.specs.Arithmetic.{word_sum, word_difference, signed_less, shifted_left, shifted_right, shifted_right_signed, low_product, high_product, high_product_signed, high_product_mixed, quotient, quotient_signed, remainder, remainder_signed}
+use Rattle.vm_word.specs.Arithmetic.{word_sum, word_difference, sign_extended, signed_less, shifted_left, shifted_right, shifted_right_signed, low_product, high_product, high_product_signed, high_product_mixed, quotient, quotient_signed, remainder, remainder_signed}
 
 abbrev pub word_of_test : Bool → ℕ
 word_of_test b = if b then 1 else 0
@@ -53,10 +53,6 @@ width_of op =
     else if nat_eq op 16 then 1
     else if nat_eq op 17 then 2
     else 4
-
--- a number of this many bits in two's complement, as a word
-abbrev pub sign_extended : ℕ → ℕ → ℕ
-sign_extended bits number = if nat_lt number (2 ^ (bits - 1)) then number else number + (2 ^ 32 - 2 ^ bits)
 
 -- the number that was loaded, as a word
 unfoldable pub extended : ℕ → ℕ → ℕ

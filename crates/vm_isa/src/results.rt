@@ -2,12 +2,13 @@
 
 ghost use Rattle.std.specs.Prelude.{◌≡◌, ◌+◌, ◌<◌, ◌≤◌, IsTrue};
 ghost use Rattle.vm_isa.specs.Opcodes.{is_load};
-ghost use Rattle.vm_isa.specs.Results.{alu as alu_of, mul_div as mul_div_of, is_taken as is_taken_of, width_of, extended, number_in, sign_extended, with_low};
+ghost use Rattle.vm_isa.specs.Results.{alu as alu_of, mul_div as mul_div_of, is_taken as is_taken_of, width_of, extended, number_in, with_low};
 
 use crate::opcode::*;
 use vm_word::arithmetic::{
     divide, divide_signed, multiply_high, multiply_high_mixed, multiply_high_signed, multiply_low,
-    remainder, remainder_signed, shift_left, shift_right, shift_right_signed, signed_less,
+    remainder, remainder_signed, shift_left, shift_right, shift_right_signed, sign_extend,
+    signed_less,
 };
 use vm_word::of_limbs;
 
@@ -76,26 +77,6 @@ pub fn width(op: u8) -> u32
     }
 }
 
-fn extend_byte(byte: u8) -> u32
-    ensures { result ≡ sign_extended 8 byte }
-{
-    if byte < 0x80 {
-        u32::from(byte)
-    } else {
-        u32::from(byte) + 0xFFFF_FF00
-    }
-}
-
-fn extend_half(half: u16) -> u32
-    ensures { result ≡ sign_extended 16 half }
-{
-    if half < 0x8000 {
-        u32::from(half)
-    } else {
-        u32::from(half) + 0xFFFF_0000
-    }
-}
-
 #[tactic(auto, using(crate::proofs::BlockLaws::number_in_byte))]
 fn byte_in(block: [u8; 4], from: usize) -> u8
     requires { from < 4 }
@@ -120,9 +101,9 @@ pub fn loaded(op: u8, block: [u8; 4], from: usize) -> u32
     ensures { result ≡ extended op (number_in block from (width_of op)) }
 {
     match op {
-        LB => extend_byte(byte_in(block, from)),
+        LB => sign_extend(8, u32::from(byte_in(block, from))),
         LBU => u32::from(byte_in(block, from)),
-        LH => extend_half(half_in(block, from)),
+        LH => sign_extend(16, u32::from(half_in(block, from))),
         LHU => u32::from(half_in(block, from)),
         _ => of_limbs(block),
     }

@@ -1,4 +1,5 @@
 pub mod Rows
 pub mod Order
 pub mod Program
+pub mod Start
 pub mod Laws

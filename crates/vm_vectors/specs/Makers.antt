@@ -1,7 +1,7 @@
 -- The immediates that a format can spell, and what a word of a format decodes to.
 use Rattle.std.specs.Prelude.{ℕ, ◌≡◌, ◌%◌, ◌^◌, List, Some, IsTrue, Contains}
 use Rattle.rv_decode.specs.declared.instr.Instr.{Instr}
-use Rattle.rv_decode.specs.Bits.{sign_extended}
+use Rattle.vm_word.specs.Arithmetic.{sign_extended}
 use Rattle.rv_decode.specs.Formats.{Fixed, Line, fits, fixing, r_format, i_format, s_format, b_format, u_format, j_format}
 use Rattle.rv_decode.specs.Listing.{listing, decode_of}
 

@@ -2,7 +2,7 @@
 #![tactic(auto)]
 
 ghost use Rattle.std.specs.Prelude.{◌≡◌, ◌-◌, ◌%◌, ◌≤◌, ◌<◌, ◌^◌};
-ghost use Rattle.rv_decode.specs.Bits.{bits, sign_extended, opcode_of, rd_of, funct3_of, rs1_of, rs2_of, funct7_of, i_immediate, s_immediate, b_immediate, u_immediate, j_immediate};
+ghost use Rattle.rv_decode.specs.Bits.{bits, opcode_of, rd_of, funct3_of, rs1_of, rs2_of, funct7_of, i_immediate, s_immediate, b_immediate, u_immediate, j_immediate};
 ghost use Rattle.vm_vectors.specs.Makers.{IsSignExtended, IsEvenSignExtended, DecodesByR, DecodesByI, DecodesByS, DecodesByB, DecodesByU, DecodesByJ};
 
 mod elf;

@@ -29,6 +29,10 @@ shifted_right word by = word / 2 ^ by
 abbrev pub shifted_right_signed : ℕ → ℕ → ℕ
 shifted_right_signed word by = if is_negative word then word / 2 ^ by + (2 ^ 32 - 2 ^ (32 - by)) else word / 2 ^ by
 
+-- a number of this many bits in two's complement, as a word (section 2.3)
+abbrev pub sign_extended : ℕ → ℕ → ℕ
+sign_extended bits number = if nat_lt number (2 ^ (bits - 1)) then number else number + (2 ^ 32 - 2 ^ bits)
+
 -- a signed word with 64 bits
 abbrev pub sign_extended_64 : ℕ → ℕ
 sign_extended_64 word = if is_negative word then word + (2 ^ 64 - 2 ^ 32) else word

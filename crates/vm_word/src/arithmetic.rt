@@ -1,6 +1,6 @@
 // Results of instructions on words. Signed words are in two's complement.
 ghost use Rattle.std.specs.Prelude.{◌≡◌, ◌<◌, ◌/◌, ◌^◌};
-ghost use Rattle.vm_word.specs.Arithmetic.{is_negative, signed_less, shifted_left, shifted_right, shifted_right_signed, sign_extended_64, low_product, high_product, high_product_signed, high_product_mixed, magnitude, negated, negated_if, quotient, quotient_signed, remainder, remainder_signed};
+ghost use Rattle.vm_word.specs.Arithmetic.{is_negative, signed_less, shifted_left, shifted_right, shifted_right_signed, sign_extended, sign_extended_64, low_product, high_product, high_product_signed, high_product_mixed, magnitude, negated, negated_if, quotient, quotient_signed, remainder, remainder_signed};
 
 use crate::signed;
 
@@ -43,6 +43,20 @@ pub fn shift_right_signed(word: u32, by: u32) -> u32
         (word >> by) + (u32::MAX - (u32::MAX >> by))
     } else {
         word >> by
+    }
+}
+
+/// A signed number of this many bits as a word.
+pub fn sign_extend(bits: u32, number: u32) -> u32
+    requires some { 0 < bits }
+    requires most { bits < 32 }
+    requires fits { number < 2 ^ bits }
+    ensures { result ≡ sign_extended bits number }
+{
+    if number < 1 << (bits - 1) {
+        number
+    } else {
+        number + (u32::MAX - ((1 << bits) - 1))
     }
 }
 

@@ -1,7 +1,6 @@
 // Instructions that load from memory or store to it.
 ghost use Rattle.std.specs.Prelude.{◌≡◌, ◌<◌, ◌%◌, IfOk, OnErr};
 ghost use Rattle.rv_decode.specs.declared.instr.Instr.TheVariants.{Load, Store, HintStore, ShaBlock};
-ghost use Rattle.rv_decode.specs.Bits.{sign_extended};
 ghost use Rattle.rv_run.specs.Memory.{number_at};
 ghost use Rattle.rv_run.specs.Step.{extended, load_width as load_width_of, store_width as store_width_of};
 ghost use Rattle.rv_run.specs.State.{machine_of, program_of, IsStepBy};
@@ -12,6 +11,7 @@ use crate::obstacles::{at_address, at_block};
 use crate::outcome::{Cause, Stepped};
 use rv_decode::{LoadKind, StoreKind};
 use sha_words::compress;
+use vm_word::arithmetic::sign_extend;
 
 impl<'a> State<'a> {
     pub fn load_register(&mut self, kind: LoadKind, rd: u8, rs1: u8, imm: u32) -> Stepped
@@ -36,8 +36,8 @@ impl<'a> State<'a> {
         ensures { result ≡ extended kind (number_at (machine_of self.now).memory address (load_width_of kind)) }
     {
         match kind {
-            LoadKind::Lb => extend_byte(self.memory.byte(address)),
-            LoadKind::Lh => extend_half(self.memory.half(address)),
+            LoadKind::Lb => sign_extend(8, u32::from(self.memory.byte(address))),
+            LoadKind::Lh => sign_extend(16, u32::from(self.memory.half(address))),
             LoadKind::Lw => self.memory.word(address),
             LoadKind::Lbu => u32::from(self.memory.byte(address)),
             LoadKind::Lhu => u32::from(self.memory.half(address)),
@@ -121,25 +121,5 @@ fn store_width(kind: StoreKind) -> u32
         StoreKind::Sb => 1,
         StoreKind::Sh => 2,
         StoreKind::Sw => 4,
-    }
-}
-
-fn extend_byte(byte: u8) -> u32
-    ensures { result ≡ sign_extended 8 byte }
-{
-    if byte < 0x80 {
-        u32::from(byte)
-    } else {
-        u32::from(byte) + 0xFFFF_FF00
-    }
-}
-
-fn extend_half(half: u16) -> u32
-    ensures { result ≡ sign_extended 16 half }
-{
-    if half < 0x8000 {
-        u32::from(half)
-    } else {
-        u32::from(half) + 0xFFFF_0000
     }
 }
