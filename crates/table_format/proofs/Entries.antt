@@ -9,7 +9,8 @@ use Rattle.vm_field.specs.Field.{modulus}
 use Rattle.table_format.specs.declared.CountEntry.{CountEntry}
 use Rattle.table_format.specs.declared.TableError.{TableError}
 use Rattle.table_format.specs.Reading.{Gives}
-use Rattle.table_format.specs.File.{number_text, row_text, entry_text, IsNumber, IsElement, IsRow, IsEntry, Each, AreRows, AreEntries}
+use Rattle.std.specs.List.{AllByRecursion}
+use Rattle.table_format.specs.File.{number_text, row_text, entry_text, IsNumber, IsElement, IsRow, IsEntry, AreRows, AreEntries}
 use Rattle.table_format.proofs.Texts.{number_once, element_once, row_once, entry_once}
 use Rattle.table_format.proofs.Steps.{Begun, Next, Listed, HasNext, begun_first, begun_more, begun_stops, listed_none, listed_more, listed_stops}
 
@@ -26,7 +27,7 @@ element_given s t number element g same below = record {
 
 -- A row.
 
-pub each_at : {W : Type 0} (P : W → Type 0) (ws : List W) (i : ℕ) (d : W) → Each P ws → i < length ws → P (get_or ws i d)
+pub each_at : {W : Type 0} (P : W → Type 0) (ws : List W) (i : ℕ) (d : W) → AllByRecursion P ws → i < length ws → P (get_or ws i d)
 each_at P [] i d p lt = absurd (omega arith)
 each_at P (w ∷ ws) zero d p lt = p.0
 each_at P (w ∷ ws) (suc i) d p lt = each_at P ws i d p.1 (omega arith)
@@ -69,7 +70,7 @@ entry_stops end least s t u place e result is_open g h is =
 pub rows_has : (n i : ℕ) (xs : List (List ℕ)) → i < n → HasNext (λ rows. (length rows ≡ n) × AreRows rows) IsRow i xs []
 rows_has n i xs lt ws good fits = let more : i < length ws = omega (arith, good.0) in (more, each_at IsRow ws i [] good.1 more)
 
-pub each_more : {W : Type 0} (P : W → Type 0) (ws : List W) (w : W) → Each P ws → P w → Each P (ws ++ w ∷ [])
+pub each_more : {W : Type 0} (P : W → Type 0) (ws : List W) (w : W) → AllByRecursion P ws → P w → AllByRecursion P (ws ++ w ∷ [])
 each_more P [] w p q = (q, tt)
 each_more P (x ∷ ws) w p q = (p.0, each_more P ws w p.1 q)
 

@@ -7,7 +7,8 @@ use Rattle.std.proofs.lemmas.Nat.{from_le_bytes-to_le_bytes_4}
 use Rattle.std.specs.Int.{w32, from_le_bytes}
 use Rattle.std.specs.List.{flat_map}
 use Rattle.table_format.specs.declared.CountEntry.{CountEntry}
-use Rattle.table_format.specs.File.{number_text, row_text, entry_text, IsNumber, IsElement, IsByte, IsRow, IsEntry, Each, AreEntries}
+use Rattle.std.specs.List.{AllByRecursion}
+use Rattle.table_format.specs.File.{number_text, row_text, entry_text, IsNumber, IsElement, IsByte, IsRow, IsEntry, AreEntries}
 
 -- no two good parts begin the same bytes
 abbrev pub Once : {W : Type 0} → (W → Type 0) → (W → List ℕ) → Type 0
@@ -52,7 +53,7 @@ entry_once end least v w a b p q e = pair_once v w a b (p.place, p.count) (q.pla
 
 -- lists of so many good parts
 abbrev pub Lists : {W : Type 0} → (W → Type 0) → ℕ → List W → Type 0
-Lists Good n ws = (length ws ≡ n) × Each Good ws
+Lists Good n ws = (length ws ≡ n) × AllByRecursion Good ws
 
 pub list_once : {W : Type 0} (Good : W → Type 0) (text : W → List ℕ) (n : ℕ) → Once Good text → Once (Lists Good n) (flat_map text)
 list_once Good text n once [] [] a b p q e = (refl, e)
@@ -71,7 +72,7 @@ row_once = list_once IsElement number_text 3 element_once
 pub rows_once : (n : ℕ) → Once (Lists IsRow n) (flat_map row_text)
 rows_once n = list_once IsRow row_text n row_once
 
-each_pair : (end least : ℕ) (es : List CountEntry) → AreEntries end least es → Each IsPair es
+each_pair : (end least : ℕ) (es : List CountEntry) → AreEntries end least es → AllByRecursion IsPair es
 each_pair end least [] p = tt
 each_pair end least (e ∷ es) p = ((p.0.place, p.0.count), each_pair end (e.place + 1) es p.1)
 

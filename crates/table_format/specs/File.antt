@@ -1,6 +1,6 @@
 -- What a file of version 0 says, its bytes, and which files are of the form.
 use Rattle.std.specs.Prelude.{◌≡◌, ℕ, zero, suc, ◌+◌, ◌^◌, ◌≤◌, ◌<◌, List, [], ◌∷◌, ◌++◌, length}
-use Rattle.std.specs.List.{flat_map}
+use Rattle.std.specs.List.{AllByRecursion, flat_map}
 use Rattle.std.specs.Int.{w32, to_le_bytes}
 use Rattle.vm_field.specs.Field.{modulus}
 use Rattle.table_format.specs.declared.Connector.{Connector}
@@ -61,16 +61,12 @@ IsNumber n = n < 2 ^ 32
 abbrev pub IsElement : ℕ → Type 0
 IsElement n = n < modulus
 
-abbrev pub Each : {A : Type 0} → (A → Type 0) → List A → Type 0
-Each P [] = Unit {0}
-Each P (x ∷ xs) = P x × Each P xs
-
 -- three elements
 abbrev pub IsRow : List ℕ → Type 0
-IsRow row = (length row ≡ 3) × Each IsElement row
+IsRow row = (length row ≡ 3) × AllByRecursion IsElement row
 
 abbrev pub AreRows : List (List ℕ) → Type 0
-AreRows rows = Each IsRow rows
+AreRows rows = AllByRecursion IsRow rows
 
 -- the height that a code stands for
 abbrev pub height_of : ℕ → ℕ

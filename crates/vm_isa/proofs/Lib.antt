@@ -6,4 +6,5 @@ pub mod MeansLaws
 pub mod NextLaws
 pub mod LeftLaws
 pub mod NewLaws
+pub mod EmptyLaws
 pub mod Example

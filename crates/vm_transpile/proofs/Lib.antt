@@ -2,3 +2,4 @@ pub mod RowOrder
 pub mod Texts
 pub mod Forms
 pub mod Ranges
+pub mod Lookups

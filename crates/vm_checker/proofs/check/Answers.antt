@@ -1,0 +1,25 @@
+use Rattle.std.proofs.Common.{length, ap, ◌∙◌, subst, refl}
+use Rattle.table_format.specs.File.{IsFile, value_of}
+use Rattle.vm_checker.proofs.Judging.{judged_file, judged_no_file}
+use Rattle.vm_checker.proofs.check.Goals as goal
+
+pub returns-in-Ok : goal.returns-in-Ok
+returns-in-Ok g c =
+    let len = c.len.ensures ∙ ap length c.in_ok-program.ensures in
+    record {
+      took = c.read_file.ensures.took;
+      judged = rw c.judge.ensures
+          (judged_file (g.C.Chip.sheet c.args.chip.now) c.args.image.now (g.H.Host.state c.args.host.now) (value_of c.in-Ok.file) c.in_ok-accepted-in-Ok.accepted
+          (rw len at c.in-Ok.ensures.good) c.in-Ok.ensures.whole (rw (c.in_ok-program.ensures, c.entry.ensures) at c.in_ok-accepted-in-Ok.ensures));
+      fault = λ e. absurd (cc);
+    }
+
+pub returns-in-Err-Refused : goal.returns-in-Err-Refused
+returns-in-Err-Refused g c =
+    let len = c.len.ensures ∙ ap length c.in_ok-program.ensures in
+    record {
+      took = c.read_file.ensures.took;
+      judged = judged_no_file (g.C.Chip.sheet c.args.chip.now) c.args.image.now (g.H.Host.state c.args.host.now)
+          (rw len at ((rw c.in-Err-Refused.field-0-is at c.in-Err-Refused.ensures).refused refl));
+      fault = λ e. absurd (cc);
+    }

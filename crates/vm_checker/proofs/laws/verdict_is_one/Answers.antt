@@ -1,0 +1,5 @@
+use Rattle.vm_checker.proofs.Verdicts.{verdict_is_one}
+use Rattle.vm_checker.proofs.laws.verdict_is_one.Goals as goal
+
+pub returns : goal.returns
+returns c = verdict_is_one

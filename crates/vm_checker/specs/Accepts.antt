@@ -1,0 +1,70 @@
+-- When a file's claim is accepted over a program.
+use Rattle.std.specs.Prelude.{◌≡◌, ℕ, ◌*◌, ◌^◌, ◌<◌, Bool, true, nat_eq, nat_lt, List, [], ◌∷◌, ◌++◌, flat_map, length, count_by, slice_get, slice_index, Option, Some, None, Contains}
+use Rattle.std.specs.List.{AllByRecursion, list_any}
+use Rattle.vm_isa.specs.declared.instr.VmInstr.{VmInstr}
+use Rattle.vm_isa.specs.Instr.{numbers_of}
+use Rattle.air_core.specs.declared.event.Event.{Event}
+use Rattle.air_core.specs.Sheet.{Sheet, RowHolds, row_events, received}
+use Rattle.air_core.specs.Balance.{BalancedOn}
+use Rattle.exec_path.specs.Path.{Point}
+use Rattle.exec_path.specs.PathEvents.{connector_events}
+use Rattle.table_format.specs.declared.Connector.{Connector}
+use Rattle.table_format.specs.declared.CountEntry.{CountEntry}
+use Rattle.table_format.specs.File.{FileValue}
+
+-- the execution bus and the program bus
+abbrev pub is_path_bus : ℕ → Bool
+is_path_bus bus = nat_lt bus 2
+
+-- A table that stands alone, has rows of three elements as a file does, and says something on the
+-- execution bus and the program bus only.
+pub record IsPathTable (sheet : Sheet) : Type 0 where
+  pub width : sheet.width ≡ 3
+  pub alone : sheet.alone ≡ true
+  pub buses : (row : List ℕ) → AllByRecursion (λ e. e.bus < 2) (row_events sheet row)
+
+-- ---- what is said
+
+-- the connector goes from the start at time 1 to the end
+abbrev pub start_of : Connector → Point
+start_of c = record { pc = c.pc_start; time = 1 }
+
+abbrev pub end_of : Connector → Point
+end_of c = record { pc = c.pc_end; time = c.end_time }
+
+-- a row of the program is received as often as its entry says
+abbrev pub received_row : ℕ → Option VmInstr → List Event
+received_row count None = []
+received_row count (Some row) = received 1 count (numbers_of row) ∷ []
+
+abbrev pub entry_events : List VmInstr → CountEntry → List Event
+entry_events program e = received_row e.count (slice_get program e.place)
+
+-- all that a file says: its connector, its rows and its entries
+abbrev pub file_events : Sheet → List VmInstr → FileValue → List Event
+file_events sheet program v =
+    connector_events (start_of v.connector) (end_of v.connector) ++ (flat_map (row_events sheet) v.rows ++ flat_map (entry_events program) v.entries)
+
+-- ---- what is accepted
+
+-- at a pc of the program stands a TERMINATE with this exit code
+pub record Terminates (program : List VmInstr) (pc code : ℕ) : Type 0 where
+  pub row : VmInstr
+  pub stands : Contains program row
+  pub here : row.pc ≡ pc
+  pub is_end : row.op ≡ 41
+  pub states : slice_index row.imm 0 ≡ code
+
+pub record Accepts (sheet : Sheet) (program : List VmInstr) (entry : ℕ) (v : FileValue) : Type 0 where
+  pub rows : AllByRecursion (RowHolds sheet) v.rows
+  pub slots : length v.rows * sheet.slots < 2 ^ 24
+  pub balanced : BalancedOn is_path_bus (file_events sheet program v)
+  pub start : v.connector.pc_start ≡ entry
+  pub ends : Terminates program v.connector.pc_end v.exit_code
+
+-- a row is valid where it says something on the execution bus
+abbrev pub is_valid : Sheet → List ℕ → Bool
+is_valid sheet row = list_any (λ e. nat_eq e.bus 0) (row_events sheet row)
+
+abbrev pub valid_rows : Sheet → List (List ℕ) → ℕ
+valid_rows sheet rows = count_by (is_valid sheet) rows

@@ -1,0 +1,48 @@
+-- What a check answers.
+use Rattle.std.specs.Prelude.{◌≡◌, ◌≢◌, ℕ, Bool, true, List, [], length, replicate, if◌then◌else◌, Result, IsErrOf, IfOk, IfSome}
+use Rattle.vm_host.specs.declared.Slot.TheVariants.{Second}
+use Rattle.vm_host.specs.State.{HostState}
+use Rattle.vm_host.specs.Calls.{Rose}
+use Rattle.vm_host.specs.ReadUpTo.{Took}
+use Rattle.air_core.specs.Sheet.{Sheet}
+use Rattle.elf_image.specs.Image.{HasImage}
+use Rattle.elf_image.specs.Loaded.{Loaded}
+use Rattle.rv_run.specs.Run.{Ends}
+use Rattle.table_format.specs.File.{FileValue, IsFile, spelling}
+use Rattle.vm_isa.specs.declared.instr.VmInstr.{VmInstr}
+use Rattle.vm_transpile.specs.Program.{program_of}
+use Rattle.vm_checker.specs.declared.Accepted.{Accepted as Acceptance}
+use Rattle.vm_checker.specs.declared.CheckError.{CheckError}
+use Rattle.vm_checker.specs.declared.CheckError.TheVariants.{Fault}
+use Rattle.vm_checker.specs.declared.Verdict.{Verdict}
+use Rattle.vm_checker.specs.declared.Verdict.TheVariants.{Accepted, Rejected}
+use Rattle.vm_checker.specs.declared.Reason.TheVariants.{File, Claim}
+use Rattle.vm_checker.specs.Accepts.{Accepts, valid_rows}
+
+-- an accepted file of version 0: no public bytes, one segment, no hints
+abbrev pub acceptance_of : ℕ → Acceptance
+acceptance_of code = record { code = code; public = replicate 64 0; segments = 1; hints = [] }
+
+abbrev pub verdict_of : Bool → ℕ → Verdict
+verdict_of accepted code = if accepted then Accepted (acceptance_of code) else Rejected Claim
+
+-- The verdict on a file of these bytes, over the program of an image. It is rejected as no file exactly
+-- where the bytes are the spelling of none, and for its claim exactly where that is not accepted.
+pub data Judges (sheet : Sheet) (loaded : Loaded) (bytes : List ℕ) (verdict : Verdict) : Type 0 where
+  accepted : (v : FileValue) → IsFile (length (program_of loaded)) v → bytes ≡ spelling v → Accepts sheet (program_of loaded) loaded.entry v
+      → verdict ≡ Accepted (acceptance_of v.exit_code) → Judges sheet loaded bytes verdict
+  no_file : ((v : FileValue) → IsFile (length (program_of loaded)) v → bytes ≢ spelling v) → verdict ≡ Rejected File → Judges sheet loaded bytes verdict
+  no_claim : (v : FileValue) → IsFile (length (program_of loaded)) v → bytes ≡ spelling v → (Accepts sheet (program_of loaded) loaded.entry v → ⊥)
+      → verdict ≡ Rejected Claim → Judges sheet loaded bytes verdict
+
+-- the verdict is on the bytes of the input's rest, where a host tells them; else there are such bytes
+pub record Judged (sheet : Sheet) (loaded : Loaded) (s : HostState) (verdict : Verdict) : Type 0 where
+  pub bytes : List ℕ
+  pub told : IfSome (s.input Second).rest (λ rest. rest ≡ bytes)
+  pub judges : Judges sheet loaded bytes verdict
+
+pub record Checks (sheet : Sheet) (loaded : Loaded) (s t : HostState) (result : Result Verdict CheckError) : Type 0 where
+  -- whatever the answer, the input lost what was read, and nothing else changed
+  pub took : (bytes : List ℕ) × Took Second s t bytes
+  pub judged : IfOk result (λ verdict. Judged sheet loaded s verdict)
+  pub fault : IsErrOf result Fault → Rose s.faults t.faults
