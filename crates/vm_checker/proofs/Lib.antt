@@ -6,3 +6,4 @@ pub mod Ends
 pub mod Balances
 pub mod Holding
 pub mod Judging
+pub mod Nop

@@ -13,37 +13,53 @@ use Rattle.elf_image.specs.declared.ImageError.TheVariants.{Short, Magic, Class,
 use Rattle.elf_image.specs.Image.{IsRefused}
 use Rattle.vm_host.specs.declared.Slot.TheVariants.{Elf}
 use Rattle.vm_tool.specs.Files.{MAX_FILE, RefusesElf, refused, halt_of_image}
-use Rattle.vm_tool.specs.ReadFile.{Quiet, ReadWhole, ReadNone, HaltsAt}
+use Rattle.vm_tool.specs.declared.answer.Answer.{Answer}
+use Rattle.vm_tool.specs.declared.answer.Halt.{Halt}
+use Rattle.vm_tool.specs.declared.answer.Halt.TheVariants.{Found, Fault, Memory}
+use Rattle.vm_tool.specs.ReadFile.{Quiet, IsOpened, ReadWhole, ReadNone, HaltsAt}
 use Rattle.vm_tool.proofs.Quiet.{long_content}
 
 noted_at_ok : {T : Type 0} (old new : Option (List (Place × List ℕ))) (pair : Place × List ℕ) (x : T) → Notes old new pair (Ok x) → new ≡ then_more old (pair ∷ [])
 noted_at_ok old new pair x (inl same) = same
 noted_at_ok old new pair x (inr other) = absurd (cc (other.0))
 
--- an open that succeeds, and then reads
-pub opened_then_took : {T : Type 0} (slot : Slot) (name bytes : List ℕ) (s t u : HostState) (x : T) → Opens slot name s t (Ok x) → Took slot t u bytes → Quiet s u ((place_of slot, name) ∷ [])
-opened_then_took slot name bytes s t u x o a = record {
-  later = omega (arith, o.cause.later, a.later);
-  named = ap (λ (y : HostState). y.named) a.frame ∙ noted_at_ok s.named t.named (place_of slot, name) x o.named;
-  frame = a.frame ∙ ap (λ (y : HostState). record y { faults = u.faults; input = u.input }) o.frame
+-- an open that succeeds
+pub opened : {T : Type 0} (slot : Slot) (name : List ℕ) (s t : HostState) (x : T) → Opens slot name s t (Ok x) → IsOpened slot name s t
+opened slot name s t x o = record {
+  input = o.opened;
+  quiet = record { later = o.cause.later; named = noted_at_ok s.named t.named (place_of slot, name) x o.named; frame = o.frame };
+}
+
+-- and then reads
+pub opened_then_took : (slot : Slot) (name bytes : List ℕ) (s t u : HostState) → IsOpened slot name s t → Took slot t u bytes → Quiet s u ((place_of slot, name) ∷ [])
+opened_then_took slot name bytes s t u o a = record {
+  later = omega (arith, o.quiet.later, a.later);
+  named = ap (λ (y : HostState). y.named) a.frame ∙ o.quiet.named;
+  frame = a.frame ∙ ap (λ (y : HostState). record y { faults = u.faults; input = u.input }) o.quiet.frame
       ∙ ap (λ n. record s { faults = u.faults; input = u.input; named = n }) (sym (ap (λ (y : HostState). y.named) a.frame));
 }
 
 -- a file of which nothing is made after it was opened
-pub opened_for_nothing : {T : Type 0} (slot : Slot) (name bytes : List ℕ) (s t u : HostState) (x : T) → Opens slot name s t (Ok x) → Took slot t u bytes → ReadNone slot name s u
-opened_for_nothing slot name bytes s t u x o a = record { count = 1; quiet = opened_then_took slot name bytes s t u x o a }
+pub opened_for_nothing : (slot : Slot) (name bytes : List ℕ) (s t u : HostState) → IsOpened slot name s t → Took slot t u bytes → ReadNone slot name s u
+opened_for_nothing slot name bytes s t u o a = record { count = 1; quiet = opened_then_took slot name bytes s t u o a }
+
+-- a file that can't be opened is refused with no answer
+pub no_refusal : (Refuses : List ℕ → Answer → Type 0) (slot : Slot) (name : List ℕ) (s t : HostState) (halt : Halt) → HaltsAt (λ _ _. ⊥) slot name s t halt → HaltsAt Refuses slot name s t halt
+no_refusal Refuses slot name s t (Found found) h = absurd (h.2)
+no_refusal Refuses slot name s t Fault h = h
+no_refusal Refuses slot name s t Memory h = h
 
 -- a failure after a file was opened
 pub rose_after : (s t u : ℕ) → s ≤ t → Rose t u → Rose s u
 rose_after s t u later rose = omega (arith, rose, later)
 
 -- a file that is too long
-pub file_too_long : {T V : Type 0} (items : V → List ℕ) (slot : Slot) (name : List ℕ) (s t u : HostState) (x : T) → Opens slot name s t (Ok x) → ReadsUpTo items slot MAX_FILE t u (Err TooLong) → (bytes : List ℕ) × ReadWhole slot name s u bytes × (MAX_FILE < length bytes)
-file_too_long items slot name s t u x o r =
-    let rest : (t.input slot).rest ≡ s.content slot name = ap (λ (i : Input). i.rest) o.opened in
+pub file_too_long : {V : Type 0} (items : V → List ℕ) (slot : Slot) (name : List ℕ) (s t u : HostState) → IsOpened slot name s t → ReadsUpTo items slot MAX_FILE t u (Err TooLong) → (bytes : List ℕ) × ReadWhole slot name s u bytes × (MAX_FILE < length bytes)
+file_too_long items slot name s t u o r =
+    let rest : (t.input slot).rest ≡ s.content slot name = ap (λ (i : Input). i.rest) o.input in
     let P : Option (List ℕ) → Type 0 = λ told. IfSome told (λ all. MAX_FILE < length all) in
     let bytes = long_content (s.content slot name) MAX_FILE (subst P rest (r.too_long refl)) in
-    (bytes.0, record { told = bytes.1; quiet = opened_then_took slot name r.took.0 s t u x o r.took.1 }, bytes.2)
+    (bytes.0, record { told = bytes.1; quiet = opened_then_took slot name r.took.0 s t u o r.took.1 }, bytes.2)
 
 -- a file that was read and has no image, or for which memory was refused
 pub image_halts : (name bytes : List ℕ) (old new : HostState) (error : ImageError) → ReadWhole Elf name old new bytes → length bytes ≤ MAX_FILE → (error ≢ OutOfMemory → IsRefused bytes error) → HaltsAt RefusesElf Elf name old new (halt_of_image error)

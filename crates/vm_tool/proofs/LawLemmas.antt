@@ -16,7 +16,7 @@ use Rattle.vm_tool.specs.declared.answer.Answer.TheVariants as answer
 use Rattle.vm_tool.specs.declared.answer.Status.{Status}
 use Rattle.vm_tool.specs.declared.answer.Status.TheVariants as status
 use Rattle.vm_tool.specs.Answer.{status_of, text_of}
-use Rattle.vm_tool.specs.Command.{Command, run, transpile, words_of, IsInLimits}
+use Rattle.vm_tool.specs.Command.{Command, run, transpile, check, words_of, IsInLimits}
 use Rattle.vm_tool.specs.Files.{MAX_FILE, GivesImage, RefusesElf, too_long, refused, RefusesHints}
 use Rattle.vm_tool.specs.TranspileCommand.{Lists, not_read, listed}
 use Rattle.vm_transpile.specs.Program.{program_of}
@@ -36,6 +36,11 @@ same_command (run elf hints steps) (run elf' hints' steps') h k e =
 same_command (run elf hints steps) (transpile elf') h k e = absurd cc
 same_command (transpile elf) (run elf' hints' steps') h k e = absurd cc
 same_command (transpile elf) (transpile elf') h k e = cc
+same_command (check elf tables) (check elf' tables') h k e = cc
+same_command (check elf tables) (run elf' hints' steps') h k e = absurd cc
+same_command (check elf tables) (transpile elf') h k e = absurd cc
+same_command (run elf hints steps) (check elf' tables') h k e = absurd cc
+same_command (transpile elf) (check elf' tables') h k e = absurd cc
 
 pub meaning_is_one : MeaningIsOne
 meaning_is_one words None None a b = refl
@@ -144,6 +149,8 @@ no_fault_answer (answer.ElfRefused refusal) e = cc
 no_fault_answer answer.HintLimit e = cc
 no_fault_answer (answer.Exit code public_bytes steps) e = cc
 no_fault_answer (answer.Listing rows) e = cc
+no_fault_answer (answer.Accepted accepted) e = cc
+no_fault_answer (answer.Rejected reason) e = cc
 no_fault_answer (answer.Trapped trap) e = cc
 no_fault_answer (answer.StepLimit limit) e = cc
 

@@ -4,6 +4,7 @@ pub mod Files
 pub mod Stages
 pub mod Runs
 pub mod Transpiles
+pub mod Checks
 pub mod Listings
 pub mod Spoken
 pub mod LawLemmas

@@ -8,7 +8,7 @@ use Rattle.vm_tool.specs.declared.answer.Status.{Status}
 use Rattle.vm_tool.specs.declared.answer.Status.TheVariants.{Done}
 use Rattle.vm_tool.specs.declared.answer.Halt.TheVariants.{Found}
 use Rattle.vm_tool.specs.Answer.{status_of, text_of}
-use Rattle.vm_tool.specs.Command.{Command, run, transpile}
+use Rattle.vm_tool.specs.Command.{Command, run, transpile, check}
 use Rattle.vm_tool.specs.Says.{Says}
 use Rattle.vm_tool.specs.Outcome.{KeepsOutput, SaysPart, Outcome, answered, fault, memory, Answers, Finds, Spoken, whole, fault_in, memory_in, Speaks}
 
@@ -16,6 +16,7 @@ keeps_both : (command : Option Command) (s t u : HostState) → KeepsOutput comm
 keeps_both None s t u a b = b ∙ a
 keeps_both (Some (run elf hints steps)) s t u a b = b ∙ a
 keeps_both (Some (transpile elf)) s t u a b = b ∙ a
+keeps_both (Some (check elf tables)) s t u a b = b ∙ a
 
 said_part : (command : Option Command) (s t u : HostState) (found : Answer) → Says s.content command found → t.said ≡ s.said → GrowsByPart t.said u.said (text_of found) → SaysPart command s u
 said_part command s t u found says same part =

@@ -1,5 +1,5 @@
 -- Which status an answer has, and the line that is said.
-use Rattle.std.specs.Prelude.{ℕ, List, ◌++◌, codes}
+use Rattle.std.specs.Prelude.{ℕ, List, ◌++◌, length, codes}
 use Rattle.std.specs.Fmt.{decimal}
 use Rattle.std.specs.Int.{w32, to_be_bytes}
 use Rattle.hex.specs.Hex.{encode_lower}
@@ -7,6 +7,8 @@ use Rattle.elf_image.specs.declared.ImageError.{ImageError}
 use Rattle.elf_image.specs.declared.ImageError.TheVariants as image
 use Rattle.rv_run.specs.declared.outcome.Cause.{Cause}
 use Rattle.rv_run.specs.declared.outcome.Cause.TheVariants as cause
+use Rattle.vm_checker.specs.declared.Reason.{Reason}
+use Rattle.vm_checker.specs.declared.Reason.TheVariants as reason
 use Rattle.vm_tool.specs.declared.answer.Answer.{Answer}
 use Rattle.vm_tool.specs.declared.answer.Answer.TheVariants as answer
 use Rattle.vm_tool.specs.declared.answer.Status.{Status}
@@ -48,6 +50,8 @@ status_of (answer.ElfRefused refusal) = status.ElfRefused
 status_of answer.HintLimit = status.Limit
 status_of (answer.Exit code public_bytes steps) = status.Done
 status_of (answer.Listing rows) = status.Done
+status_of (answer.Accepted accepted) = status.Done
+status_of (answer.Rejected reason) = status.Rejected
 status_of (answer.Trapped trap) = status.Trapped
 status_of (answer.StepLimit limit) = status.Limit
 
@@ -55,6 +59,16 @@ status_of (answer.StepLimit limit) = status.Limit
 abbrev pub line_of_exit : ℕ → List ℕ → ℕ → List ℕ
 line_of_exit code digits steps =
     codes "exit " ++ decimal code ++ codes " public " ++ digits ++ codes " steps " ++ decimal steps ++ codes "\n"
+
+abbrev pub reason_text : Reason → List ℕ
+reason_text reason.File = codes "file"
+reason_text reason.Claim = codes "claim"
+
+-- 64 public bytes as 128 digits, with the exit code, the segments and how many hint bytes the run takes
+abbrev pub line_of_accepted : ℕ → List ℕ → ℕ → ℕ → List ℕ
+line_of_accepted code digits segments hints =
+    codes "accepted exit " ++ decimal code ++ codes " public " ++ digits ++ codes " segments " ++ decimal segments
+    ++ codes " hint-bytes " ++ decimal hints ++ codes "\n"
 
 -- the line or lines that are said
 abbrev pub text_of : Answer → List ℕ
@@ -64,6 +78,8 @@ text_of (answer.ElfRefused refusal) = codes "elf " ++ refusal_text refusal ++ co
 text_of answer.HintLimit = codes "limit hints 67108864\n"
 text_of (answer.Exit code public_bytes steps) = line_of_exit code (encode_lower public_bytes) steps
 text_of (answer.Listing rows) = listing_of rows
+text_of (answer.Accepted accepted) = line_of_accepted accepted.code (encode_lower accepted.public) accepted.segments (length accepted.hints)
+text_of (answer.Rejected reason) = codes "rejected " ++ reason_text reason ++ codes "\n"
 text_of (answer.Trapped trap) =
     codes "trap " ++ cause_text trap.cause ++ codes " at " ++ encode_lower (to_be_bytes w32 trap.pc) ++ codes "\n"
 text_of (answer.StepLimit limit) = codes "limit steps " ++ decimal limit ++ codes "\n"

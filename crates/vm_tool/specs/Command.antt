@@ -10,15 +10,19 @@ pub data Command : Type 0 where
   run : List ℕ → List ℕ → ℕ → Command
   -- list the program rows of an ELF file
   transpile : List ℕ → Command
+  -- check a table file against the program of an ELF file
+  check : List ℕ → List ℕ → Command
 
 -- the words of a command; a number is decimal digits, without sign or leading zero
 abbrev pub words_of : Command → List (List ℕ)
 words_of (run elf hints steps) = codes "run" ∷ elf ∷ hints ∷ decimal steps ∷ []
 words_of (transpile elf) = codes "transpile" ∷ elf ∷ []
+words_of (check elf tables) = codes "check" ∷ elf ∷ tables ∷ []
 
 abbrev pub IsInLimits : Command → Type 0
 IsInLimits (run elf hints steps) = steps ≤ 1000000000
 IsInLimits (transpile elf) = Unit {0}
+IsInLimits (check elf tables) = Unit {0}
 
 -- the words are this command, or none
 abbrev pub Means : List (List ℕ) → Option Command → Type 0
@@ -29,3 +33,4 @@ Means words None = (command : Command) → IsInLimits command → words ≢ word
 abbrev pub names_of : Command → List (Place × List ℕ)
 names_of (run elf hints steps) = (place.Elf, elf) ∷ (place.Second, hints) ∷ []
 names_of (transpile elf) = (place.Elf, elf) ∷ []
+names_of (check elf tables) = (place.Elf, elf) ∷ (place.Second, tables) ∷ []

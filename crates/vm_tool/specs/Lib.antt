@@ -6,6 +6,7 @@ pub mod Form
 pub mod Files
 pub mod RunCommand
 pub mod TranspileCommand
+pub mod CheckCommand
 pub mod Says
 pub mod Outcome
 pub mod ReadFile

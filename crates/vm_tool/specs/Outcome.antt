@@ -10,7 +10,7 @@ use Rattle.vm_tool.specs.declared.answer.Status.TheVariants.{Done, HostFault, No
 use Rattle.vm_tool.specs.declared.answer.Halt.{Halt}
 use Rattle.vm_tool.specs.declared.answer.Halt.TheVariants.{Found, Fault, Memory}
 use Rattle.vm_tool.specs.Answer.{status_of, text_of}
-use Rattle.vm_tool.specs.Command.{Command, names_of, run, transpile}
+use Rattle.vm_tool.specs.Command.{Command, names_of, run, transpile, check}
 use Rattle.vm_tool.specs.Says.{Says}
 
 -- the names of a command, and none for other words
@@ -23,6 +23,7 @@ abbrev pub KeepsOutput : Option Command → HostState → HostState → Type 0
 KeepsOutput None old new = new.output ≡ old.output
 KeepsOutput (Some (run elf hints steps)) old new = new.output ≡ old.output
 KeepsOutput (Some (transpile elf)) old new = new.output ≡ old.output
+KeepsOutput (Some (check elf tables)) old new = new.output ≡ old.output
 
 -- after a success all names were handed over
 abbrev pub IsDone : Option Command → HostState → HostState → Type 0

@@ -1,5 +1,5 @@
 -- Opening a file, reading it whole, and looking at its bytes.
-use Rattle.std.specs.Prelude.{◌≡◌, ℕ, ◌≤◌, List, [], ◌∷◌, take, Result, MatchResult}
+use Rattle.std.specs.Prelude.{◌≡◌, ℕ, ◌≤◌, List, [], ◌∷◌, take, true, Result, MatchResult}
 use Rattle.vm_host.specs.declared.Slot.{Slot}
 use Rattle.vm_host.specs.declared.Place.{Place}
 use Rattle.vm_host.specs.Names.{place_of}
@@ -15,6 +15,11 @@ pub record Quiet (old new : HostState) (names : List (Place × List ℕ)) : Type
   pub later : old.faults ≤ new.faults
   pub named : new.named ≡ then_more old.named names
   pub frame : new ≡ record old { faults = new.faults; input = new.input; named = new.named }
+
+-- the input stands open at the file's front, and the name was noted
+pub record IsOpened (slot : Slot) (name : List ℕ) (old new : HostState) : Type 0 where
+  pub input : new.input slot ≡ record { is_open = true; rest = old.content slot name }
+  pub quiet : Quiet old new ((place_of slot, name) ∷ [])
 
 -- the file was read, as far as it decides the answer, and these are its bytes
 pub record ReadWhole (slot : Slot) (name : List ℕ) (old new : HostState) (bytes : List ℕ) : Type 0 where

@@ -1,11 +1,12 @@
 // What the program answers: a status and a line.
 ghost use Rattle.std.specs.Prelude.{◌≡◌, IfOk, string_bytes};
 ghost use Rattle.vm_tool.specs.Listing.{line_of_row, listing_of};
-ghost use Rattle.vm_tool.specs.Answer.{status_of, text_of, refusal_text, cause_text, line_of_exit, code_of};
+ghost use Rattle.vm_tool.specs.Answer.{status_of, text_of, refusal_text, cause_text, reason_text, line_of_exit, line_of_accepted, code_of};
 
 use elf_image::ImageError;
 use rv_run::{Cause, Trap};
 use std::alloc::{AllocError, Global};
+use vm_checker::{Accepted, Reason};
 use vm_isa::VmInstr;
 use vm_transpile::Program;
 
@@ -53,6 +54,10 @@ pub enum Answer {
     },
     /// The rows of the program.
     Listing(Program),
+    /// The table file is accepted.
+    Accepted(Accepted),
+    /// The table file is rejected.
+    Rejected(Reason),
     Trapped(Trap),
     /// One step more than the limit went on.
     StepLimit {
@@ -77,7 +82,8 @@ impl Answer {
             Answer::Words => Status::Words,
             Answer::ElfTooLong | Answer::ElfRefused(_) => Status::ElfRefused,
             Answer::HintLimit | Answer::StepLimit { .. } => Status::Limit,
-            Answer::Exit { .. } | Answer::Listing(_) => Status::Done,
+            Answer::Exit { .. } | Answer::Listing(_) | Answer::Accepted(_) => Status::Done,
+            Answer::Rejected(_) => Status::Rejected,
             Answer::Trapped(_) => Status::Trapped,
         }
     }
@@ -103,6 +109,15 @@ impl Answer {
                 exit_line(alloc, *code, &digits, *steps)
             }
             Answer::Listing(program) => listing(alloc, program),
+            Answer::Accepted(accepted) => {
+                let digits = hex::encode(alloc, accepted.public.as_slice())?;
+                let hints = accepted.hints.as_slice().len();
+                accepted_line(alloc, accepted.code, &digits, accepted.segments, hints)
+            }
+            Answer::Rejected(reason) => {
+                let reason = reason_name(*reason);
+                format!(in alloc; "rejected {reason}\n")
+            }
             Answer::Trapped(Trap { cause, pc }) => {
                 let digits = hex::encode(alloc, pc.to_be_bytes().as_slice())?;
                 let cause = cause_name(*cause);
@@ -155,6 +170,30 @@ fn exit_line(alloc: Global, code: u8, digits: &str, steps: u64) -> Result<String
 {
     let mut line = format!(in alloc; "exit {code} public {digits}")?;
     let end = format!(in alloc; " steps {steps}\n")?;
+    line.push_str(&end)?;
+    Ok(line)
+}
+
+fn reason_name(reason: Reason) -> &'static str
+    ensures { result.now ≡ reason_text reason }
+{
+    match reason {
+        Reason::File => "file",
+        Reason::Claim => "claim",
+    }
+}
+
+fn accepted_line(
+    alloc: Global,
+    code: u8,
+    digits: &str,
+    segments: u32,
+    hints: usize,
+) -> Result<String, AllocError>
+    ensures { IfOk result (λ text. string_bytes text ≡ line_of_accepted code digits.now segments hints) }
+{
+    let mut line = format!(in alloc; "accepted exit {code} public {digits}")?;
+    let end = format!(in alloc; " segments {segments} hint-bytes {hints}\n")?;
     line.push_str(&end)?;
     Ok(line)
 }

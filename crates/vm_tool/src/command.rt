@@ -19,6 +19,10 @@ pub enum Form<'a> {
     Transpile {
         elf: &'a str,
     },
+    Check {
+        elf: &'a str,
+        tables: &'a str,
+    },
 }
 
 /// Reads the words. `None` is for words that are no command.
@@ -27,6 +31,7 @@ pub fn parse_words(words: &[String]) -> Option<Form<'_>>
 {
     match words {
         [name, first] => parse_two(name.as_str(), first.as_str()),
+        [name, first, second] => parse_three(name.as_str(), first.as_str(), second.as_str()),
         [name, first, second, third] => parse_four(
             name.as_str(),
             first.as_str(),
@@ -42,6 +47,19 @@ fn parse_two<'a>(name: &str, first: &'a str) -> Option<Form<'a>>
 {
     if name == "transpile" {
         Some(Form::Transpile { elf: first })
+    } else {
+        None
+    }
+}
+
+fn parse_three<'a>(name: &str, first: &'a str, second: &'a str) -> Option<Form<'a>>
+    ensures { Means (name.now ∷ first.now ∷ second.now ∷ []) (option_map command_of result) }
+{
+    if name == "check" {
+        Some(Form::Check {
+            elf: first,
+            tables: second,
+        })
     } else {
         None
     }

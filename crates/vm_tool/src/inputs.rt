@@ -1,8 +1,8 @@
 // The files that a command reads.
-ghost use Rattle.std.specs.Prelude.{◌≡◌, ◌≤◌, ◌<◌, ℕ, List, length};
+ghost use Rattle.std.specs.Prelude.{◌≡◌, ◌≤◌, ◌<◌, ℕ, List, length, OnOk, IfErr};
 ghost use Rattle.vm_host.specs.declared.Slot.TheVariants.{Elf, Second};
 ghost use Rattle.vm_tool.specs.Files.{MAX_FILE, GivesImage, RefusesElf, RefusesHints, halt_of_image};
-ghost use Rattle.vm_tool.specs.ReadFile.{Gives};
+ghost use Rattle.vm_tool.specs.ReadFile.{Gives, HaltsAt, IsOpened};
 
 use crate::answer::{Answer, Halt};
 use elf_image::{Image, ImageError, read_image};
@@ -10,6 +10,18 @@ use std::alloc::Global;
 use vm_host::{Host, HostError, ReadError, Slot, read_up_to};
 
 const MAX_LENGTH: usize = 1 << 26;
+
+/// Opens an input.
+pub fn open<H: Host>(slot: Slot, name: &str, host: &mut H) -> Result<(), Halt>
+    ensures opened { OnOk result (IsOpened slot name.now (H.state host.old) (H.state host.new)) }
+    ensures refused { IfErr result (λ halt. HaltsAt (λ _ _. ⊥) slot name.now (H.state host.old) (H.state host.new) halt) }
+{
+    match host.open_input(slot, name) {
+        Ok(()) => Ok(()),
+        Err(HostError::Failed) => Err(Halt::Fault),
+        Err(HostError::OutOfMemory) => Err(Halt::Memory),
+    }
+}
 
 // Opens a file and reads it whole. A file that is too long has this answer.
 fn read_file<H: Host>(
@@ -21,11 +33,7 @@ fn read_file<H: Host>(
 ) -> Result<Vec<u8>, Halt>
     ensures { Gives (λ bytes v. (bytes ≡ v.items) × (length bytes ≤ MAX_FILE)) (λ bytes found. (MAX_FILE < length bytes) × (found ≡ long)) slot name.now (H.state host.old) (H.state host.new) result }
 {
-    match host.open_input(slot, name) {
-        Ok(()) => {}
-        Err(HostError::Failed) => return Err(Halt::Fault),
-        Err(HostError::OutOfMemory) => return Err(Halt::Memory),
-    }
+    open(slot, name, host)?;
     match read_up_to(alloc, host, slot, MAX_LENGTH) {
         Ok(bytes) => Ok(bytes),
         Err(ReadError::TooLong) => Err(Halt::Found(long)),

@@ -2,6 +2,7 @@
 #![tactic(auto)]
 
 mod answer;
+mod check_command;
 mod command;
 mod inputs;
 mod laws;

@@ -6,6 +6,7 @@ ghost use Rattle.vm_tool.specs.Form.{command_of};
 ghost use Rattle.vm_tool.specs.Outcome.{Answers, Finds, Speaks, halt_of};
 
 use crate::answer::{Answer, Halt, Status};
+use crate::check_command::find_check;
 use crate::command::{Form, parse_words};
 use crate::run_command::find_run;
 use crate::transpile_command::find_transpile;
@@ -38,6 +39,7 @@ fn find<H: Host>(alloc: Global, form: Option<Form>, host: &mut H) -> Halt
         None => Halt::Found(Answer::Words),
         Some(Form::Run { elf, hints, steps }) => halt(find_run(alloc, elf, hints, steps, host)),
         Some(Form::Transpile { elf }) => halt(find_transpile(alloc, elf, host)),
+        Some(Form::Check { elf, tables }) => halt(find_check(alloc, elf, tables, host)),
     }
 }
 
