@@ -7,3 +7,6 @@ pub mod NextLaws
 pub mod LeftLaws
 pub mod NewLaws
 pub mod Example
+pub mod ReadsKept
+pub mod RowSteps
+pub mod Shapes
