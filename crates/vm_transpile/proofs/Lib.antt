@@ -4,3 +4,4 @@ pub mod Forms
 pub mod Ranges
 pub mod Meanings
 pub mod WordBytes
+pub mod Updates
