@@ -5,3 +5,5 @@ pub mod Ranges
 pub mod Meanings
 pub mod WordBytes
 pub mod Updates
+pub mod Turns
+pub mod Operations
