@@ -7,3 +7,4 @@ pub mod WordBytes
 pub mod Updates
 pub mod Turns
 pub mod Operations
+pub mod OperationTurns
