@@ -8,3 +8,4 @@ pub mod Updates
 pub mod Turns
 pub mod Operations
 pub mod OperationTurns
+pub mod MemoryTurns

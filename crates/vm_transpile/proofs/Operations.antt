@@ -58,7 +58,7 @@ pub record Puts (m : Machine) (s : VmState) (i : VmInstr) (rd w : ℕ) : Type 0 
   pub can : Can i s olds
   pub acts : Acts i s olds (record { pc = word_sum m.pc 4; blocks = with_block s.blocks 1 (4 * rd) (limbs_of w); hints = s.hints })
 
-none_used : (used : ℕ) (hints : List ℕ) → used ≡ 0 → drop used hints ≡ hints
+pub none_used : (used : ℕ) (hints : List ℕ) → used ≡ 0 → drop used hints ≡ hints
 none_used used hints e = rw e refl
 
 module _ (m : Machine) (s : VmState) (is : IsMachine m) (h : Same m s) where
