@@ -9,3 +9,5 @@ pub mod Turns
 pub mod Operations
 pub mod OperationTurns
 pub mod MemoryTurns
+pub mod StoreTurns
+pub mod JumpTurns

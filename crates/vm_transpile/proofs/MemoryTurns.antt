@@ -98,7 +98,7 @@ load2 Lb pc rd rs1 limbs = record { places = λ b c. refl; keep0 = λ o g x. ref
 load2 _ pc rd rs1 limbs = record { places = λ b c. refl; keep0 = λ o g x. refl; keep1 = λ o g x. refl; next = λ o. refl; fits = λ x y. tested _; used = refl }
 
 -- the row's immediate is the instruction's
-imm_word : (imm : ℕ) → imm < 2 ^ 32 → word_of_limbs (limbs_of imm) ≡ imm
+pub imm_word : (imm : ℕ) → imm < 2 ^ 32 → word_of_limbs (limbs_of imm) ≡ imm
 imm_word imm low = word_of_limbs-limbs_of imm low
 
 module _ (m : Machine) (s : VmState) (is : IsMachine m) (h : Same m s) where

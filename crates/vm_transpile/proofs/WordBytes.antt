@@ -43,7 +43,7 @@ number_at-shift m q o (suc n) =
     let next : q + o + 1 ≡ q + (o + 1) = omega arith in
     rw (next, number_at-shift m q (o + 1) n) refl
 
-block-with : (m : ℕ → ℕ) (q o : ℕ) (bytes : List ℕ) → memory_block (with_bytes m (q + o) bytes) q ≡ four (with_bytes (λ j. m (q + j)) o bytes)
+pub block-with : (m : ℕ → ℕ) (q o : ℕ) (bytes : List ℕ) → memory_block (with_bytes m (q + o) bytes) q ≡ four (with_bytes (λ j. m (q + j)) o bytes)
 block-with m q o bytes =
     four-of (with_bytes m (q + o) bytes) q
     ∙ rw (with_bytes-shift m q o 0 bytes, with_bytes-shift m q o 1 bytes, with_bytes-shift m q o 2 bytes, with_bytes-shift m q o 3 bytes) refl
