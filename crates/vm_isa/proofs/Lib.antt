@@ -10,3 +10,4 @@ pub mod Example
 pub mod ReadsKept
 pub mod RowSteps
 pub mod Shapes
+pub mod ShaShape

@@ -15,7 +15,7 @@ is_at_block p = is_block p.space p.pointer
 abbrev pub put_at : Blocks → Place → List ℕ → Blocks
 put_at blocks p word = with_block blocks p.space p.pointer word
 
-access : (ℕ → List ℕ → List ℕ) → Place → List ℕ → Accessed
+abbrev pub access : (ℕ → List ℕ → List ℕ) → Place → List ℕ → Accessed
 access new p x = record { slot = p.slot; space = p.space; pointer = p.pointer; old = x; new = new p.slot x }
 
 -- no access
@@ -73,7 +73,7 @@ module _ (i : VmInstr) (s : VmState) (p : Place) (pl : (b c : ℕ) → places_by
 module _ (i : VmInstr) (s : VmState) (p : Place) (q : ℕ → Place) (pl : (b c : ℕ) → places_by i b c ≡ p ∷ q b ∷ [])
     (keep : (olds : List (List ℕ)) (given x : List ℕ) → new_at i olds given p.slot x ≡ x) where
   pub forced2 : (X Y : List ℕ) (b : ℕ) → look s.blocks p ≡ X → word_of_limbs X ≡ b → look s.blocks (q b) ≡ Y → (olds : List (List ℕ)) → Can i s olds → olds ≡ X ∷ Y ∷ []
-  unfolding accessed_by Meets word_at access
+  unfolding accessed_by Meets word_at
   forced2 X Y b hx hb hy [] can =
       let two : length (places_of i []) ≡ 2 = ap (λ (ps : List Place). length ps) (pl _ _) in
       let long : 0 ≡ length (places_of i []) = can.long in
@@ -102,7 +102,7 @@ module _ (i : VmInstr) (s : VmState) (p : Place) (q : ℕ → Place) (pl : (b c 
 
   pub can2 : (X Y : List ℕ) (b : ℕ) → look s.blocks p ≡ X → word_of_limbs X ≡ b → look s.blocks (q b) ≡ Y → is_refused i (X ∷ Y ∷ []) ≡ false
       → is_at_block p ≡ true → is_at_block (q b) ≡ true → hints_used i.op ≤ length s.hints → Can i s (X ∷ Y ∷ [])
-  unfolding accessed_by Meets access
+  unfolding accessed_by Meets
   can2 X Y b hx hb hy fits on_p on_q enough =
       let new = new_at i (X ∷ Y ∷ []) (take 4 s.hints) in
       record {
@@ -114,7 +114,7 @@ module _ (i : VmInstr) (s : VmState) (p : Place) (q : ℕ → Place) (pl : (b c 
       }
 
   pub blocks2 : (X Y : List ℕ) (b : ℕ) → word_of_limbs X ≡ b → Can i s (X ∷ Y ∷ []) → (is_at_block p ≡ true) × (is_at_block (q b) ≡ true)
-  unfolding accessed_by Meets access
+  unfolding accessed_by Meets
   blocks2 X Y b hb can =
       let new = new_at i (X ∷ Y ∷ []) (take 4 s.hints) in
       let meets = subst (λ (ps : List Place). Meets s.blocks (accessed_by new ps (X ∷ Y ∷ []))) (places2 X Y b hb) can.meets in
@@ -123,7 +123,7 @@ module _ (i : VmInstr) (s : VmState) (p : Place) (q : ℕ → Place) (pl : (b c 
 
   pub after2 : (X Y : List ℕ) (b : ℕ) (given : List ℕ) → look s.blocks p ≡ X → word_of_limbs X ≡ b
       → after_accesses s.blocks (accesses_of i (X ∷ Y ∷ []) given) ≡ put_at s.blocks (q b) (new_at i (X ∷ Y ∷ []) given (q b).slot Y)
-  unfolding accessed_by after_accesses access
+  unfolding accessed_by after_accesses
   after2 X Y b given hx hb =
       let new = new_at i (X ∷ Y ∷ []) given in
       ap (λ (ps : List Place). after_accesses s.blocks (accessed_by new ps (X ∷ Y ∷ []))) (places2 X Y b hb)
@@ -135,7 +135,7 @@ module _ (i : VmInstr) (s : VmState) (p : Place) (q r : ℕ → Place) (pl : (b 
     (keep_q : (b : ℕ) (olds : List (List ℕ)) (given x : List ℕ) → new_at i olds given (q b).slot x ≡ x) where
   pub forced3 : (X Y Z : List ℕ) (b : ℕ) → look s.blocks p ≡ X → word_of_limbs X ≡ b → look s.blocks (q b) ≡ Y → look s.blocks (r b) ≡ Z
       → (olds : List (List ℕ)) → Can i s olds → olds ≡ X ∷ Y ∷ Z ∷ []
-  unfolding accessed_by Meets word_at access
+  unfolding accessed_by Meets word_at
   forced3 X Y Z b hx hb hy hz [] can =
       let three : length (places_of i []) ≡ 3 = ap (λ (ps : List Place). length ps) (pl _ _) in
       let long : 0 ≡ length (places_of i []) = can.long in
@@ -170,7 +170,7 @@ module _ (i : VmInstr) (s : VmState) (p : Place) (q r : ℕ → Place) (pl : (b 
 
   pub can3 : (X Y Z : List ℕ) (b : ℕ) → look s.blocks p ≡ X → word_of_limbs X ≡ b → look s.blocks (q b) ≡ Y → look s.blocks (r b) ≡ Z → is_refused i (X ∷ Y ∷ Z ∷ []) ≡ false
       → is_at_block p ≡ true → is_at_block (q b) ≡ true → is_at_block (r b) ≡ true → hints_used i.op ≤ length s.hints → Can i s (X ∷ Y ∷ Z ∷ [])
-  unfolding accessed_by Meets access
+  unfolding accessed_by Meets
   can3 X Y Z b hx hb hy hz fits on_p on_q on_r enough =
       let new = new_at i (X ∷ Y ∷ Z ∷ []) (take 4 s.hints) in
       record {
@@ -183,7 +183,7 @@ module _ (i : VmInstr) (s : VmState) (p : Place) (q r : ℕ → Place) (pl : (b 
       }
 
   pub blocks3 : (X Y Z : List ℕ) (b : ℕ) → word_of_limbs X ≡ b → Can i s (X ∷ Y ∷ Z ∷ []) → (is_at_block p ≡ true) × (is_at_block (q b) ≡ true) × (is_at_block (r b) ≡ true)
-  unfolding accessed_by Meets access
+  unfolding accessed_by Meets
   blocks3 X Y Z b hb can =
       let new = new_at i (X ∷ Y ∷ Z ∷ []) (take 4 s.hints) in
       let meets = subst (λ (ps : List Place). Meets s.blocks (accessed_by new ps (X ∷ Y ∷ Z ∷ []))) (places3 X Y Z b hb) can.meets in
@@ -193,7 +193,7 @@ module _ (i : VmInstr) (s : VmState) (p : Place) (q r : ℕ → Place) (pl : (b 
 
   pub after3 : (X Y Z : List ℕ) (b : ℕ) (given : List ℕ) → look s.blocks p ≡ X → word_of_limbs X ≡ b → look s.blocks (q b) ≡ Y
       → after_accesses s.blocks (accesses_of i (X ∷ Y ∷ Z ∷ []) given) ≡ put_at s.blocks (r b) (new_at i (X ∷ Y ∷ Z ∷ []) given (r b).slot Z)
-  unfolding accessed_by after_accesses access
+  unfolding accessed_by after_accesses
   after3 X Y Z b given hx hb hy =
       let new = new_at i (X ∷ Y ∷ Z ∷ []) given in
       ap (λ (ps : List Place). after_accesses s.blocks (accessed_by new ps (X ∷ Y ∷ Z ∷ []))) (places3 X Y Z b hb)
