@@ -11,3 +11,4 @@ pub mod OperationTurns
 pub mod MemoryTurns
 pub mod StoreTurns
 pub mod JumpTurns
+pub mod ShaTurn
