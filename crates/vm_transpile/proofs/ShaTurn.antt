@@ -128,3 +128,156 @@ compressed_same m s h X Y b c even_b even_c low_b low_c =
     let words = words_same m s h b even_b low_b in
     let bytes = bytes_same m s h c even_c low_c in
     λ k. compress (words k) (bytes k)
+
+-- ---- the row
+
+sha_quiet : (pc state block : ℕ) (olds : List (List ℕ)) (given x : List ℕ) (slot : ℕ) → slot < 18 → new_at (sha_row pc state block) olds given slot x ≡ x
+unfolding new_at
+sha_quiet pc state block olds given x slot low =
+    let off : nat_le 18 slot ≡ false = grind (arith, nat_tests) in
+    rw off refl
+
+sha_writes : (pc state block : ℕ) (olds : List (List ℕ)) (given : List ℕ) (j : ℕ) (z : List ℕ) → new_at (sha_row pc state block) olds given (18 + j) z ≡ limbs_of (slice_index (compressed olds) j)
+unfolding new_at
+sha_writes pc state block olds given j z =
+    let on : nat_le 18 (18 + j) ≡ true = grind (arith, nat_tests) in
+    let back : 18 + j - 18 ≡ j = omega arith in
+    rw (on, back) refl
+
+sha_places-are : (pc state block b c : ℕ) → places_by (sha_row pc state block) b c ≡ sha_places (sha_row pc state block) b c
+unfolding places_by
+sha_places-are pc state block b c = refl
+
+sha_next : (pc state block : ℕ) (olds : List (List ℕ)) → next_of (sha_row pc state block) olds ≡ word_sum pc 4
+unfolding next_of
+sha_next pc state block olds = refl
+
+sha_refused : (pc state block : ℕ) (blocks : Blocks) (X Y : List ℕ) (b c : ℕ) → is_refused (sha_row pc state block) (sha_olds blocks X Y b c) ≡ ((is_high (word_of_limbs X) && true) || (is_high (word_of_limbs Y) && true))
+unfolding is_refused bars_first bars_second word_at
+sha_refused pc state block blocks X Y b c = refl
+
+both_low : (x y : Bool) → ((x && true) || (y && true)) ≡ false → (x ≡ false) × (y ≡ false)
+both_low true y e = absurd (cc)
+both_low false true e = absurd (cc)
+both_low false false e = (refl, refl)
+
+low_both : (x y : Bool) → x ≡ false → y ≡ false → ((x && true) || (y && true)) ≡ false
+low_both x y e f = rw (e, f) refl
+
+pub record AtBlock (state block : ℕ) : Type 0 where
+  even_state : state % 4 ≡ 0
+  even_block : block % 4 ≡ 0
+  low_state : state + 32 ≤ 2 ^ 29
+  low_block : block + 64 ≤ 2 ^ 29
+
+at_by : (p q r u : Bool) → cond (not (p && q)) (let c : Option Cause = Some Misaligned in c) (cond (r && u) None (Some OutOfRange)) ≡ None → (p ≡ true) × (q ≡ true) × (r ≡ true) × (u ≡ true)
+at_by true true true true e = (refl, refl, refl, refl)
+at_by true true true false e = absurd (cc)
+at_by true true false u e = absurd (cc)
+at_by true false r u e = absurd (cc)
+at_by false q r u e = absurd (cc)
+
+free_at : (state block : ℕ) → at_block state block ≡ None → AtBlock state block
+free_at state block h =
+    let all = at_by (state % 4 == 0) (block % 4 == 0) (nat_le state (2 ^ 29 - 32)) (nat_le block (2 ^ 29 - 64)) h in
+    let p : (state % 4 == 0) ≡ true = all.0 in
+    let q : (block % 4 == 0) ≡ true = all.1 in
+    let r : nat_le state (2 ^ 29 - 32) ≡ true = all.2 in
+    let u : nat_le block (2 ^ 29 - 64) ≡ true = all.3 in
+    let low : state ≤ 2 ^ 29 - 32 = grind (arith, nat_tests) in
+    let under : block ≤ 2 ^ 29 - 64 = grind (arith, nat_tests) in
+    record { even_state = grind (arith, nat_tests); even_block = grind (arith, nat_tests); low_state = omega arith; low_block = omega arith }
+
+at_free : (state block : ℕ) → AtBlock state block → at_block state block ≡ None
+at_free state block at =
+    let r : nat_le state (2 ^ 29 - 32) ≡ true = grind (arith, nat_tests) in
+    let u : nat_le block (2 ^ 29 - 64) ≡ true = grind (arith, nat_tests) in
+    rw (at.even_state, at.even_block, r, u) refl
+
+is_word : (x j : ℕ) → x % 4 ≡ 0 → x + 4 * j + 4 ≤ 2 ^ 29 → is_block 2 (word_sum x (4 * j)) ≡ true
+is_word x j even low =
+    let pointer : word_sum x (4 * j) ≡ x + 4 * j = omega arith in
+    let whole : (x + 4 * j) % 4 ≡ 0 = omega arith in
+    let under : nat_lt (x + 4 * j) (2 ^ 29) ≡ true = grind (arith, nat_tests) in
+    rw (pointer, whole, under) refl
+
+word_parts_by : (y : ℕ) (p q : Bool) → nat_eq (y % 4) 0 ≡ p → nat_lt y (2 ^ 29) ≡ q → (p && q) ≡ true → (y % 4 ≡ 0) × (y < 2 ^ 29)
+word_parts_by y true true e f h = (grind (arith, nat_tests), grind (arith, nat_tests))
+word_parts_by y true false e f h = absurd (cc)
+word_parts_by y false q e f h = absurd (cc)
+
+word_parts : (y : ℕ) → is_block 2 y ≡ true → (y % 4 ≡ 0) × (y < 2 ^ 29)
+word_parts y h = word_parts_by y (nat_eq (y % 4) 0) (nat_lt y (2 ^ 29)) refl refl h
+
+-- the last word of a range lies in memory: so does the range
+last_word : (x j : ℕ) → x < 2 ^ 29 → j < 16 → is_block 2 (word_sum x (4 * j)) ≡ true → (x % 4 ≡ 0) × (x + 4 * j + 4 ≤ 2 ^ 29)
+last_word x j low few h =
+    let pointer : word_sum x (4 * j) ≡ x + 4 * j = omega arith in
+    let parts = word_parts (x + 4 * j) (subst (λ (n : ℕ). is_block 2 n ≡ true) pointer h) in
+    let even : (x + 4 * j) % 4 ≡ 0 = parts.0 in
+    let under : x + 4 * j < 2 ^ 29 = parts.1 in
+    (omega arith, omega arith)
+
+not_high : (x : ℕ) → x < 2 ^ 29 → is_high x ≡ false
+not_high x low = grind (arith, nat_tests)
+
+low_from : (x : ℕ) → is_high x ≡ false → x < 2 ^ 29
+low_from x h = grind (arith, nat_tests)
+
+module _ (m : Machine) (s : VmState) (is : IsMachine m) (h : Same m s) where
+  sha_state : (state block : ℕ) → AtBlock (register m state) (register m block) → (X Y : List ℕ) (given : List ℕ) (zs : List (List ℕ)) → length zs ≡ 8
+      → Same (goes_on (store_words (register m state) (compressed_by m state block) m))
+      (record {
+        pc = word_sum m.pc 4;
+        blocks = after_accesses s.blocks (accessed_by (new_at (sha_row m.pc state block) (sha_olds s.blocks X Y (register m state) (register m block)) given) (memory_from 18 (register m state) 8) zs);
+        hints = s.hints;
+      })
+  sha_state state block at X Y given zs eight =
+      let b : ℕ = register m state in
+      let c : ℕ = register m block in
+      let i : VmInstr = sha_row m.pc state block in
+      let olds : List (List ℕ) = sha_olds s.blocks X Y b c in
+      let words : List ℕ = compressed_by m state block in
+      let same : compressed olds ≡ words = compressed_same m s h X Y b c at.even_state at.even_block at.low_state at.low_block in
+      let writes : (j : ℕ) (z : List ℕ) → new_at i olds given (18 + j) z ≡ limbs_of (slice_index words j) =
+      λ j z. sha_writes m.pc state block olds given j z ∙ ap (λ (ws : List ℕ). limbs_of (slice_index ws j)) same in
+      let start : b + 4 * 0 ≡ b = omega arith in
+      subst (λ (x : ℕ). Same (record m { pc = word_sum m.pc 4; memory = with_words m.memory x words }) (record { pc = word_sum m.pc 4; blocks = after_accesses s.blocks (accessed_by (new_at i olds given) (memory_from 18 b 8) zs); hints = s.hints })) start
+      (sha_same b at.even_state at.low_state words (new_at i olds given) writes 8 0 zs (jumps (word_sum m.pc 4) m) (record { pc = word_sum m.pc 4; blocks = s.blocks; hints = s.hints }) refl
+      (compress_long (words_at m.memory b 8) (bytes_at m.memory c 64)) eight (same_stays m s (word_sum m.pc 4) h))
+
+  pub sha_turn : (state block : ℕ) → state < 32 → block < 32 → Turns m (ShaBlock state block) (row_of m.pc (ShaBlock state block)) s
+  sha_turn state block one two =
+      let i : VmInstr = sha_row m.pc state block in
+      let b : ℕ = register m state in
+      let c : ℕ = register m block in
+      let X : List ℕ = limbs_of b in
+      let Y : List ℕ = limbs_of c in
+      let pl = sha_places-are m.pc state block in
+      let quiet = sha_quiet m.pc state block in
+      let hx : s.blocks 1 (4 * state) ≡ X = h.registers state one in
+      let hy : s.blocks 1 (4 * block) ≡ Y = h.registers block two in
+      let hb : word_of_limbs X ≡ b = word_back m state is in
+      let hc : word_of_limbs Y ≡ c = word_back m block is in
+      let olds : List (List ℕ) = sha_olds s.blocks X Y b c in
+      let bad : is_refused i olds ≡ ((is_high b && true) || (is_high c && true)) = sha_refused m.pc state block s.blocks X Y b c ∙ rw (hb, hc) refl in
+      let zs : List (List ℕ) = map (look s.blocks) (memory_from 18 b 8) in
+      turns m (ShaBlock state block) i s (goes_on (store_words b (compressed_by m state block) m)) olds
+      (record { pc = word_sum m.pc 4; blocks = after_accesses s.blocks (accessed_by (new_at i olds (take 4 s.hints)) (memory_from 18 b 8) zs); hints = s.hints }) refl
+      (record {
+        forced = sha_forced i s pl quiet X Y b c hx hb hy hc;
+        leads = state_is _ _ _ _ _ _ (sha_next m.pc state block olds) (sha_after i s pl quiet X Y b c hx hb hy hc (take 4 s.hints)) refl;
+      })
+      (λ free low.
+      let at = free_at b c free in
+      (sha_can i s pl quiet X Y b c hx hb hy hc (bad ∙ low_both (is_high b) (is_high c) (not_high b (let l = at.low_state in omega arith)) (not_high c (let l = at.low_block in omega arith)))
+      (is_register state one) (is_register block two)
+      (λ j less. is_word c j at.even_block (let l = at.low_block in omega arith)) (λ j less. is_word b j at.even_state (let l = at.low_state in omega arith)) (let none : 0 ≤ length s.hints = omega arith in none),
+      sha_state state block at X Y (take 4 s.hints) zs refl))
+      (λ can even low.
+      let fits = both_low (is_high b) (is_high c) (sym bad ∙ can.fits) in
+      let on = sha_blocks i s pl quiet X Y b c hx hb hy hc can in
+      let from_c = last_word c 15 (low_from c fits.1) (omega arith) (on.0 15 (omega arith)) in
+      let from_b = last_word b 7 (low_from b fits.0) (omega arith) (on.1 7 (omega arith)) in
+      let at : AtBlock b c = record { even_state = from_b.0; even_block = from_c.0; low_state = omega (arith, from_b.1); low_block = omega (arith, from_c.1) } in
+      (at_free b c at, sha_state state block at X Y (take 4 s.hints) zs refl))
