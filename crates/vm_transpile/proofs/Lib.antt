@@ -12,3 +12,8 @@ pub mod MemoryTurns
 pub mod StoreTurns
 pub mod JumpTurns
 pub mod ShaTurn
+pub mod Bounds
+pub mod Kept
+pub mod Refinement
+pub mod Starts
+pub mod RunsAlike

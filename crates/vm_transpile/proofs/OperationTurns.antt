@@ -63,7 +63,7 @@ auipc_makes : (pc rd imm : ℕ) → Makes1 (upper_row pc AUIPC rd imm) pc rd (wo
 unfolding places_by new_at next_of is_refused bars_first bars_second imm_of
 auipc_makes pc rd imm = record { places = λ b c. refl; new = λ z g. refl; next = λ o. refl; fits = λ z. refl; used = refl }
 
-operand_word : (op : AluOp) (imm : ℕ) → IsOperandOf op imm → imm < 2 ^ 32
+pub operand_word : (op : AluOp) (imm : ℕ) → IsOperandOf op imm → imm < 2 ^ 32
 operand_word Add imm h = h
 operand_word Sub imm h = absurd h
 operand_word Sll imm h = omega (arith, h)

@@ -106,7 +106,7 @@ public_by true true h = (refl, refl)
 public_by true false h = absurd (cc)
 public_by false y h = absurd (cc)
 
-public_free : (a : ℕ) → at_public a ≡ None → (a % 4 ≡ 0) × (a < 64)
+pub public_free : (a : ℕ) → at_public a ≡ None → (a % 4 ≡ 0) × (a < 64)
 public_free a h =
     let both = public_by (nat_eq (a % 4) 0) (nat_lt a 64) h in
     let even : nat_eq (a % 4) 0 ≡ true = both.0 in

@@ -28,7 +28,7 @@ put_by blocks registers rd r w word false e low is h =
     let other : r ≡ rd → ⊥ = λ same. grind (arith, nat_tests) in
     h ∙ ap limbs_of (sym (get_or-set_other registers rd r w 0 other))
 
-registers_put : (m : Machine) (rd w : ℕ) → (rd == 0) ≡ false → (put rd w m).registers ≡ set m.registers rd w
+pub registers_put : (m : Machine) (rd w : ℕ) → (rd == 0) ≡ false → (put rd w m).registers ≡ set m.registers rd w
 registers_put m rd w some = rw some refl
 
 pub same_put : (m : Machine) (s : VmState) (pc rd w : ℕ) (word : List ℕ) → IsMachine m → Same m s → rd < 32 → (rd == 0) ≡ false → word ≡ limbs_of w

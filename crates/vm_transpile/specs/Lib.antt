@@ -4,3 +4,4 @@ pub mod Program
 pub mod Start
 pub mod Laws
 pub mod Same
+pub mod Refines
