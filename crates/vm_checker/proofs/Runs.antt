@@ -25,6 +25,8 @@ use Rattle.table_format.specs.File.{FileValue, IsFile, AreRows, IsRow as IsFileR
 use Rattle.vm_transpile.specs.Program.{program_of}
 use Rattle.vm_transpile.specs.Start.{vm_start}
 use Rattle.vm_transpile.proofs.Ranges.{rows_in_range}
+use Rattle.vm_transpile.proofs.RunsAlike.{runs_end_alike}
+use Rattle.elf_image.specs.Image.{HasImage}
 use Rattle.vm_checker.specs.Accepts.{Accepts, IsPathTable, Terminates, is_path_bus, start_of, end_of, entry_events, file_events, is_valid, valid_rows}
 use Rattle.vm_checker.proofs.Lookups.{entries_elsewhere}
 use Rattle.vm_checker.specs.Laws.{AcceptedFilesAreRuns}
@@ -107,8 +109,10 @@ rows_of_table sheet rows wide are = all_weaker IsFileRow (IsRow sheet) (λ row r
 none_public : (loaded : Loaded) → public_bytes_of (vm_start loaded []).blocks ≡ replicate 64 0
 none_public loaded = refl
 
-pub accepted_is_run : (sheet : Sheet) → Fits sheet → Buses sheet → Sound sheet → AcceptedFilesAreRuns sheet
-accepted_is_run sheet fits buses sound elf loaded v image table file accepts =
+on_blocks : (sheet : Sheet) → Fits sheet → Buses sheet → Sound sheet → (elf : List ℕ) (loaded : Loaded) (v : FileValue) → HasImage elf loaded → IsPathTable sheet
+    → IsFile (length (program_of loaded)) v → Accepts sheet (program_of loaded) loaded.entry v
+    → VmEnds (program_of loaded) (vm_start loaded []) (valid_rows sheet v.rows) v.exit_code (replicate 64 0)
+on_blocks sheet fits buses sound elf loaded v image table file accepts =
     let program = program_of loaded in
     let start = vm_start loaded [] in
     let ranges : All InRange program = rows_in_range elf loaded image in
@@ -122,3 +126,8 @@ accepted_is_run sheet fits buses sound elf loaded v image table file accepts =
       states = accepts.ends.states;
       shown = none_public loaded;
     }
+
+pub accepted_is_run : (sheet : Sheet) → Fits sheet → Buses sheet → Sound sheet → AcceptedFilesAreRuns sheet
+accepted_is_run sheet fits buses sound elf loaded v bytes image table file accepts =
+    (runs_end_alike elf loaded bytes image [] (valid_rows sheet v.rows) v.exit_code (replicate 64 0) tt).1
+    (on_blocks sheet fits buses sound elf loaded v image table file accepts)

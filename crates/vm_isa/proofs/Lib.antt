@@ -8,3 +8,7 @@ pub mod LeftLaws
 pub mod NewLaws
 pub mod EmptyLaws
 pub mod Example
+pub mod ReadsKept
+pub mod RowSteps
+pub mod Shapes
+pub mod ShaShape

@@ -40,7 +40,7 @@ file_low bytes loaded h load at =
     (cases_lt from.0.p_memsz from.0.p_filesz))
     (cases_lt (2 ^ 29) (from.0.p_vaddr + from.0.p_memsz))
 
-all_from_in : {X : Type 0} (P : X → Type 0) (xs : List X) → ((x : X) → In x xs → P x) → All P xs
+pub all_from_in : {X : Type 0} (P : X → Type 0) (xs : List X) → ((x : X) → In x xs → P x) → All P xs
 all_from_in P xs h = λ k d low. h (get_or xs k d) (in_at xs k d low)
 
 image_low : (bytes : List ℕ) (loaded : Loaded) → HasImage bytes loaded → (load : Load) → In load loaded.loads → Low load
@@ -50,7 +50,7 @@ image_low bytes loaded h load at =
     All_in Low loaded.loads (All-permutation Low (filter (λ (l : Load). nat_lt 0 l.size) (in_file bytes).loads) loaded.loads h.loads low) load at
 
 -- a text word stands in a load
-word_low : (bytes : List ℕ) (loaded : Loaded) (pc x : ℕ) → HasImage bytes loaded → word_in loaded.loads pc ≡ Some x → pc < 2 ^ 29
+pub word_low : (bytes : List ℕ) (loaded : Loaded) (pc x : ℕ) → HasImage bytes loaded → word_in loaded.loads pc ≡ Some x → pc < 2 ^ 29
 unfolding Low
 word_low bytes loaded pc x h e =
     let at = word_stands loaded.loads pc x e in
@@ -59,7 +59,7 @@ word_low bytes loaded pc x h e =
     let ends = gives_true at.0 (pc + 3) (and_parts (gives at.0 pc) (gives at.0 (pc + 3)) both.1).1 in
     omega (arith, low, ends.high)
 
-fields_in_range : (word : ℕ) (o : Option Instr) (instr : Instr) → IfSome o HasFieldsInRange → o ≡ Some instr → HasFieldsInRange instr
+pub fields_in_range : (word : ℕ) (o : Option Instr) (instr : Instr) → IfSome o HasFieldsInRange → o ≡ Some instr → HasFieldsInRange instr
 fields_in_range word None instr h e = cc
 fields_in_range word (Some other) instr h e = let same : other ≡ instr = cc in subst HasFieldsInRange same h
 

@@ -3,3 +3,5 @@ pub mod Order
 pub mod Program
 pub mod Start
 pub mod Laws
+pub mod Same
+pub mod Refines

@@ -1,0 +1,70 @@
+-- The machine on blocks does what the manual's machine does, and no more.
+use Rattle.std.specs.Prelude.{◌≡◌, ℕ, ◌↔◌, List, Some, Contains, slice_index}
+use Rattle.elf_image.specs.Loaded.{Loaded, word_of}
+use Rattle.elf_image.specs.Image.{HasImage}
+use Rattle.rv_run.specs.Machine.{Machine, start}
+use Rattle.rv_run.specs.Step.{goes, ends, step_of}
+use Rattle.rv_run.specs.Run.{Ends}
+use Rattle.vm_isa.specs.declared.instr.VmInstr.{VmInstr}
+use Rattle.vm_isa.specs.Words.{IsBytes}
+use Rattle.vm_isa.specs.Blocks.{VmState, VmStep, VmEnds}
+use Rattle.vm_transpile.specs.Program.{program_of}
+use Rattle.vm_transpile.specs.Start.{vm_start}
+use Rattle.vm_transpile.specs.Same.{IsMachine, Same}
+
+-- a text word stands at an address; it need not be an instruction
+abbrev pub HasText : Loaded → ℕ → Type 0
+HasText loaded pc = (word : ℕ) × (word_of loaded pc ≡ Some word)
+
+-- a row of the program stands there
+abbrev pub HasRow : List VmInstr → ℕ → Type 0
+HasRow program pc = (row : VmInstr) × Contains program row × (row.pc ≡ pc)
+
+-- the row at an address ends the program with this exit code
+abbrev pub HasEnd : List VmInstr → ℕ → ℕ → Type 0
+HasEnd program pc code = (row : VmInstr) × Contains program row × (row.pc ≡ pc) × (row.op ≡ 41) × (slice_index row.imm 0 ≡ code)
+
+-- ---- one step over a program
+
+-- A step that goes on, to where text stands, is a step on blocks.
+abbrev pub GoesForth : Loaded → Type 0
+GoesForth loaded = (m next : Machine) (s : VmState) → IsMachine m → Same m s → step_of loaded m ≡ goes next → HasText loaded next.pc
+    → (t : VmState) × VmStep (program_of loaded) s t × Same next t
+
+-- A step on blocks, to where a row stands, is a step that goes on. Without that row it may be none: a
+-- jump to an address that is no multiple of 4 is a trap, and a step on blocks to where no row can stand.
+abbrev pub GoesBack : Loaded → Type 0
+GoesBack loaded = (m : Machine) (s t : VmState) → IsMachine m → Same m s → VmStep (program_of loaded) s t → HasRow (program_of loaded) t.pc
+    → (next : Machine) × (step_of loaded m ≡ goes next) × Same next t
+
+-- a program ends where its row says so
+abbrev pub EndsByRow : Loaded → Type 0
+EndsByRow loaded = (m : Machine) (code : ℕ) → IsMachine m → (step_of loaded m ≡ ends code) ↔ HasEnd (program_of loaded) m.pc code
+
+-- ---- whole runs over a program
+
+-- the run on these hints ends after as many steps, with the same exit code and public bytes, on both
+abbrev pub EndsAlike : Loaded → Type 0
+EndsAlike loaded = (hints : List ℕ) (n code : ℕ) (public_bytes : List ℕ) → IsBytes hints
+    → Ends loaded hints n code public_bytes ↔ VmEnds (program_of loaded) (vm_start loaded hints) n code public_bytes
+
+-- ---- the laws, over every file that has an image
+
+abbrev pub StateIsKept : Type 0
+StateIsKept = (loaded : Loaded) (m next : Machine) → IsMachine m → step_of loaded m ≡ goes next → IsMachine next
+
+abbrev pub StartsAreSame : Type 0
+StartsAreSame = (bytes hints : List ℕ) (loaded : Loaded) → IsBytes bytes → IsBytes hints → HasImage bytes loaded
+    → IsMachine (start loaded hints) × Same (start loaded hints) (vm_start loaded hints)
+
+abbrev pub StepsGoForth : Type 0
+StepsGoForth = (bytes : List ℕ) (loaded : Loaded) → HasImage bytes loaded → GoesForth loaded
+
+abbrev pub StepsGoBack : Type 0
+StepsGoBack = (bytes : List ℕ) (loaded : Loaded) → HasImage bytes loaded → GoesBack loaded
+
+abbrev pub StepsEndByRows : Type 0
+StepsEndByRows = (bytes : List ℕ) (loaded : Loaded) → HasImage bytes loaded → EndsByRow loaded
+
+abbrev pub RunsEndAlike : Type 0
+RunsEndAlike = (bytes : List ℕ) (loaded : Loaded) → IsBytes bytes → HasImage bytes loaded → EndsAlike loaded
