@@ -1,5 +1,5 @@
 -- The balance of a file's events, as a balance of all buses.
-use Rattle.std.proofs.Common.{◌≡◌, ℕ, ◌+◌, ◌*◌, ◌<◌, ◌≤◌, Bool, true, false, List, [], ◌∷◌, ◌++◌, length, length-append, refl, sym, ◌∙◌, arith, slice_get, ⊎_elim}
+use Rattle.std.proofs.Common.{◌≡◌, ℕ, ◌<◌, ◌≤◌, Bool, true, false, List, [], ◌∷◌, ◌++◌, length, refl, sym, ◌∙◌, arith, slice_get}
 use Rattle.std.specs.Prelude.{flat_map, Option, Some, None, is_some, not, IsTrue, IsNone, ◌↔◌}
 use Rattle.std.specs.List.{AllByRecursion}
 use Rattle.std.proofs.lemmas.Bool.Decides.{nat_tests}
@@ -15,7 +15,6 @@ use Rattle.exec_path.proofs.Elements.{all_append, all_flat_map, all_from_members
 use Rattle.table_format.specs.declared.CountEntry.{CountEntry}
 use Rattle.table_format.specs.File.{FileValue}
 use Rattle.vm_checker.specs.Accepts.{is_path_bus, IsPathTable, start_of, end_of, received_row, entry_events, file_events}
-
 
 entry_on_path : (count : ℕ) (found : Option VmInstr) → AllByRecursion (λ e. e.bus < 2) (received_row count found)
 entry_on_path count None = tt

@@ -1,5 +1,5 @@
 -- What a row sends on the program bus is a row of the program, where the buses balance.
-use Rattle.std.proofs.Common.{◌≡◌, ◌≢◌, ℕ, ◌+◌, ◌<◌, ◌≤◌, true, false, nat_eq, List, [], ◌∷◌, ◌++◌, length, refl, sym, ap, ◌∙◌, subst, arith, inl, inr, Contains, slice_get}
+use Rattle.std.proofs.Common.{◌≡◌, ◌≢◌, ℕ, ◌<◌, List, [], ◌∷◌, ◌++◌, refl, sym, ap, ◌∙◌, subst, arith, inl, inr, Contains, slice_get}
 use Rattle.std.specs.Prelude.{flat_map, All, Option, Some, None, IsPermutation}
 use Rattle.std.proofs.lemmas.Bool.{ne_eqb}
 use Rattle.std.proofs.lemmas.List.Sorted.{IsPermutation-refl}
@@ -7,17 +7,16 @@ use Rattle.std.specs.List.{AllByRecursion}
 use Rattle.std.proofs.lemmas.List.Elements.{All-contains, All-from_recursion, Contains-get_or}
 use Rattle.std.proofs.lemmas.Option.{slice_get_within, get_or_from_slice_get}
 use Rattle.vm_isa.specs.declared.instr.VmInstr.{VmInstr}
-use Rattle.vm_isa.specs.Instr.{InRange, IsInstruction, numbers_of}
+use Rattle.vm_isa.specs.Instr.{InRange, numbers_of}
 use Rattle.air_core.specs.declared.event.Event.{Event}
-use Rattle.air_core.specs.declared.event.Side.{Side}
 use Rattle.air_core.specs.declared.event.Side.TheVariants.{Send, Receive}
-use Rattle.air_core.specs.Sheet.{Sheet, row_events, counted, if_counted}
+use Rattle.air_core.specs.Sheet.{Sheet, row_events}
 use Rattle.air_core.specs.Balance.{BalancedOn, total, amount_at}
 use Rattle.air_core.specs.Laws.{Buses, MayBus}
 use Rattle.air_core.specs.Lookups.{GoodEvent, Good}
 use Rattle.air_core.specs.ListLemmas.{all_counted_some, on_bus-append}
 use Rattle.air_core.specs.Step.{on_bus}
-use Rattle.air_core.proofs.BalanceLemmas.{IsThere, test_of_there, member_of_total, total-cons}
+use Rattle.air_core.proofs.BalanceLemmas.{test_of_there, member_of_total, total-cons}
 use Rattle.exec_path.specs.Orders.{Member}
 use Rattle.exec_path.proofs.Elements.{all_append, all_flat_map, all_from_members, all_at, all_weaker, member_left, member_right, member_piece}
 use Rattle.exec_path.specs.PathEvents.{connector_events, SameTotals}

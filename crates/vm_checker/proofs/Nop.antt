@@ -1,5 +1,5 @@
 -- The table of the no-operation is one that a file can have.
-use Rattle.std.proofs.Common.{◌≡◌, ℕ, ◌<◌, List, refl, lit<}
+use Rattle.std.proofs.Common.{ℕ, ◌<◌, refl, lit<}
 use Rattle.std.specs.List.{AllByRecursion}
 use Rattle.air_core.specs.Nop.{nop_sheet, nop_row, nop_lines}
 use Rattle.air_core.specs.declared.nop.columns.NopRow.{NopRow}

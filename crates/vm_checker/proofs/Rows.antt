@@ -1,8 +1,7 @@
 -- The rows of a file as rows of the path.
-use Rattle.std.proofs.Common.{◌≡◌, ◌≢◌, ℕ, ◌+◌, ◌*◌, ◌<◌, ◌≤◌, Bool, true, false, cond, nat_eq, List, [], ◌∷◌, ◌++◌, length, length-append, map, refl, sym, ap, ◌∙◌, subst, arith, inl, inr, Contains, ⊎_elim, append-nil}
-use Rattle.std.specs.Prelude.{flat_map, All, Some, count_by, IsPermutation, ◌||◌}
+use Rattle.std.proofs.Common.{◌≡◌, ◌≢◌, ℕ, ◌*◌, ◌<◌, ◌≤◌, Bool, true, false, cond, nat_eq, List, [], ◌∷◌, ◌++◌, length, length-append, refl, sym, ap, ◌∙◌, subst, arith, inl, inr, Contains, ⊎_elim}
+use Rattle.std.specs.Prelude.{flat_map, All, Some, count_by, IsPermutation}
 use Rattle.std.specs.List.{AllByRecursion, list_any}
-use Rattle.std.proofs.lemmas.Bool.{eqb-true, cases_Bool}
 use Rattle.std.proofs.lemmas.List.Sums.{sum_by-cons}
 use Rattle.std.proofs.lemmas.List.Sorted.{IsPermutation-refl}
 use Rattle.std.proofs.lemmas.List.Elements.{All-contains}
@@ -14,20 +13,19 @@ use Rattle.vm_isa.specs.Words.{IsBytes}
 use Rattle.vm_isa.proofs.InstrLaws.{numbers_of-same}
 use Rattle.air_core.specs.declared.event.Event.{Event}
 use Rattle.air_core.specs.Sheet.{Sheet, RowHolds, IsRow, row_events, sent}
-use Rattle.air_core.specs.Balance.{BalancedOn, total}
-use Rattle.air_core.specs.Step.{Touched, SoundStep, IsMeaning, accessed, touched_events, on_bus, if_on}
+use Rattle.air_core.specs.Balance.{BalancedOn}
+use Rattle.air_core.specs.Step.{Touched, SoundStep, IsMeaning, touched_events, on_bus, if_on}
 use Rattle.air_core.specs.Laws.{Buses, Fits, Sound}
 use Rattle.air_core.specs.ListLemmas.{on_bus_none}
-use Rattle.exec_path.specs.Counts.{weight}
 use Rattle.exec_path.specs.Orders.{Member}
 use Rattle.exec_path.specs.Path.{TimedRow, AddsSlots, slot_sum}
 use Rattle.exec_path.specs.PathEvents.{SameTotals, path_events}
 use Rattle.exec_path.proofs.Counting.{weight-append}
-use Rattle.exec_path.proofs.Elements.{all_append, all_from_members, all_weaker, member_cases}
+use Rattle.exec_path.proofs.Elements.{all_append, all_weaker, member_cases}
 use Rattle.exec_path.proofs.Totals.{SameTotals-listed, SameTotals-append}
 use Rattle.table_format.specs.File.{FileValue}
 use Rattle.vm_checker.specs.Accepts.{is_path_bus, IsPathTable, file_events, is_valid}
-use Rattle.vm_checker.proofs.Lookups.{ProgramTuple, row_tuple, row_good}
+use Rattle.vm_checker.proofs.Lookups.{row_tuple, row_good}
 
 -- a row of the program that has no accesses leads from one pc to the other
 pub record IsPathStep (program : List VmInstr) (row : TimedRow) : Type 0 where

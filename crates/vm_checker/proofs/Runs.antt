@@ -1,33 +1,29 @@
 -- The path of an accepted file is a run on blocks.
-use Rattle.std.proofs.Common.{◌≡◌, ◌≢◌, ℕ, zero, suc, ◌+◌, ◌*◌, ◌<◌, ◌≤◌, ◌^◌, Bool, true, false, nat_eq, nat_lt, cond, List, [], ◌∷◌, ◌++◌, length, map, refl, sym, ap, ◌∙◌, subst, arith, Contains, take, drop, replicate, append-nil}
-use Rattle.std.specs.Prelude.{flat_map, All, Some, None, count_by, IsPermutation}
+use Rattle.std.proofs.Common.{◌≡◌, ℕ, zero, suc, ◌<◌, ◌^◌, true, List, [], ◌∷◌, ◌++◌, length, refl, sym, ap, ◌∙◌, subst, arith, take, replicate, append-nil}
+use Rattle.std.specs.Prelude.{flat_map, All}
 use Rattle.std.specs.List.{AllByRecursion}
-use Rattle.std.proofs.lemmas.Bool.{eqb-true, ne_eqb, cases_Bool}
+use Rattle.std.proofs.lemmas.Bool.{eqb-true}
 use Rattle.std.proofs.lemmas.List.Sorted.{length_permutation}
 use Rattle.vm_isa.specs.declared.instr.VmInstr.{VmInstr}
 use Rattle.vm_isa.specs.Instr.{InRange}
 use Rattle.vm_isa.specs.Blocks.{VmState, VmStep, VmGoes, VmEnds, hints_used, public_bytes_of}
 use Rattle.vm_isa.proofs.EmptyLaws.{any_given, no_hints_used}
-use Rattle.air_core.specs.declared.event.Event.{Event}
-use Rattle.air_core.specs.declared.event.Side.{Side}
 use Rattle.air_core.specs.Sheet.{Sheet, RowHolds, IsRow, row_events}
-use Rattle.air_core.specs.Balance.{BalancedOn, total}
+use Rattle.air_core.specs.Balance.{BalancedOn}
 use Rattle.air_core.specs.Laws.{Buses, Fits, Sound}
-use Rattle.exec_path.specs.Orders.{Member}
-use Rattle.exec_path.specs.Path.{Point, TimedRow, OnePath, IsPath, row_from, row_to, slot_sum}
+use Rattle.exec_path.specs.Path.{Point, TimedRow, IsPath, row_to, slot_sum}
 use Rattle.exec_path.specs.PathEvents.{SameTotals, is_bus, path_events, connector_events, execution_events}
 use Rattle.exec_path.proofs.Elements.{all_permuted, all_from_members, all_at, all_weaker}
 use Rattle.exec_path.proofs.PathLemmas.{checked_path}
 use Rattle.exec_path.proofs.Totals.{SameTotals-append}
 use Rattle.elf_image.specs.Loaded.{Loaded}
-use Rattle.table_format.specs.declared.CountEntry.{CountEntry}
 use Rattle.table_format.specs.File.{FileValue, IsFile, AreRows, IsRow as IsFileRow}
 use Rattle.vm_transpile.specs.Program.{program_of}
 use Rattle.vm_transpile.specs.Start.{vm_start}
 use Rattle.vm_transpile.proofs.Ranges.{rows_in_range}
 use Rattle.vm_transpile.proofs.RunsAlike.{runs_end_alike}
 use Rattle.elf_image.specs.Image.{HasImage}
-use Rattle.vm_checker.specs.Accepts.{Accepts, IsPathTable, Terminates, is_path_bus, start_of, end_of, entry_events, file_events, is_valid, valid_rows}
+use Rattle.vm_checker.specs.Accepts.{Accepts, IsPathTable, is_path_bus, start_of, end_of, entry_events, file_events, valid_rows}
 use Rattle.vm_checker.proofs.Lookups.{entries_elsewhere}
 use Rattle.vm_checker.specs.Laws.{AcceptedFilesAreRuns}
 use Rattle.vm_checker.proofs.Rows.{IsPathStep, OneRow, one_row, AllRows, all_rows}
@@ -128,6 +124,6 @@ on_blocks sheet fits buses sound elf loaded v image table file accepts =
     }
 
 pub accepted_is_run : (sheet : Sheet) → Fits sheet → Buses sheet → Sound sheet → AcceptedFilesAreRuns sheet
-accepted_is_run sheet fits buses sound elf loaded v bytes image table file accepts =
+accepted_is_run sheet fits buses sound loaded v table file accepts elf bytes image =
     (runs_end_alike elf loaded bytes image [] (valid_rows sheet v.rows) v.exit_code (replicate 64 0) tt).1
     (on_blocks sheet fits buses sound elf loaded v image table file accepts)

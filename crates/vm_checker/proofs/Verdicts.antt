@@ -1,25 +1,25 @@
 -- Bytes have one verdict.
-use Rattle.std.proofs.Common.{◌≡◌, ℕ, List, length, sym, ap, ◌∙◌, subst}
-use Rattle.table_format.specs.File.{FileValue, IsFile, spelling}
+use Rattle.std.proofs.Common.{◌≡◌, length, sym, ap, ◌∙◌, subst}
+use Rattle.table_format.specs.File.{FileValue}
 use Rattle.table_format.proofs.Whole.{spelling_once}
 use Rattle.vm_transpile.specs.Program.{program_of}
 use Rattle.vm_checker.specs.declared.Verdict.TheVariants.{Accepted}
 use Rattle.vm_checker.specs.Accepts.{Accepts}
-use Rattle.vm_checker.specs.Verdicts.{acceptance_of, Judges, accepted, no_file, no_claim}
+use Rattle.vm_checker.specs.Verdicts.{acceptance_of, accepted, no_file, no_claim}
 use Rattle.vm_checker.specs.Laws.{VerdictIsOne}
 
 pub verdict_is_one : VerdictIsOne
-verdict_is_one sheet loaded bytes a b (accepted v file is right same) (accepted v' file' is' right' same') =
+verdict_is_one sheet loaded bytes a b (accepted v file is right runs same) (accepted v' file' is' right' runs' same') =
     let one : v ≡ v' = spelling_once (length (program_of loaded)) (length (program_of loaded)) v v' file file' (sym is ∙ is') in
     same ∙ ap (λ (x : FileValue). Accepted (acceptance_of x.exit_code)) one ∙ sym same'
-verdict_is_one sheet loaded bytes a b (accepted v file is right same) (no_file none same') = absurd (none v file is)
-verdict_is_one sheet loaded bytes a b (accepted v file is right same) (no_claim v' file' is' wrong same') =
+verdict_is_one sheet loaded bytes a b (accepted v file is right runs same) (no_file none same') = absurd (none v file is)
+verdict_is_one sheet loaded bytes a b (accepted v file is right runs same) (no_claim v' file' is' wrong same') =
     let one : v ≡ v' = spelling_once (length (program_of loaded)) (length (program_of loaded)) v v' file file' (sym is ∙ is') in
     absurd (wrong (subst (Accepts sheet (program_of loaded) loaded.entry) one right))
-verdict_is_one sheet loaded bytes a b (no_file none same) (accepted v' file' is' right' same') = absurd (none v' file' is')
+verdict_is_one sheet loaded bytes a b (no_file none same) (accepted v' file' is' right' runs' same') = absurd (none v' file' is')
 verdict_is_one sheet loaded bytes a b (no_file none same) (no_file none' same') = same ∙ sym same'
 verdict_is_one sheet loaded bytes a b (no_file none same) (no_claim v' file' is' wrong' same') = absurd (none v' file' is')
-verdict_is_one sheet loaded bytes a b (no_claim v file is wrong same) (accepted v' file' is' right' same') =
+verdict_is_one sheet loaded bytes a b (no_claim v file is wrong same) (accepted v' file' is' right' runs' same') =
     let one : v' ≡ v = spelling_once (length (program_of loaded)) (length (program_of loaded)) v' v file' file (sym is' ∙ is) in
     absurd (wrong (subst (Accepts sheet (program_of loaded) loaded.entry) one right'))
 verdict_is_one sheet loaded bytes a b (no_claim v file is wrong same) (no_file none' same') = absurd (none' v file is)

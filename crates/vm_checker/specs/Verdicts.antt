@@ -1,5 +1,5 @@
 -- What a check answers.
-use Rattle.std.specs.Prelude.{◌≡◌, ◌≢◌, ℕ, Bool, true, List, [], length, replicate, if◌then◌else◌, Result, IsErrOf, IfOk, IfSome}
+use Rattle.std.specs.Prelude.{◌≡◌, ◌≢◌, ℕ, Bool, List, [], length, replicate, if◌then◌else◌, Result, IsErrOf, IfOk, IfSome}
 use Rattle.vm_host.specs.declared.Slot.TheVariants.{Second}
 use Rattle.vm_host.specs.State.{HostState}
 use Rattle.vm_host.specs.Calls.{Rose}
@@ -9,7 +9,7 @@ use Rattle.elf_image.specs.Image.{HasImage}
 use Rattle.elf_image.specs.Loaded.{Loaded}
 use Rattle.rv_run.specs.Run.{Ends}
 use Rattle.table_format.specs.File.{FileValue, IsFile, spelling}
-use Rattle.vm_isa.specs.declared.instr.VmInstr.{VmInstr}
+use Rattle.vm_isa.specs.Words.{IsBytes}
 use Rattle.vm_transpile.specs.Program.{program_of}
 use Rattle.vm_checker.specs.declared.Accepted.{Accepted as Acceptance}
 use Rattle.vm_checker.specs.declared.CheckError.{CheckError}
@@ -26,11 +26,17 @@ acceptance_of code = record { code = code; public = replicate 64 0; segments = 1
 abbrev pub verdict_of : Bool → ℕ → Verdict
 verdict_of accepted code = if accepted then Accepted (acceptance_of code) else Rejected Claim
 
+-- over every file of this image the manual's machine ends after so many steps with this code, takes no
+-- hints and makes nothing public
+abbrev pub RunsSo : Loaded → ℕ → ℕ → Type 0
+RunsSo loaded steps code = (elf : List ℕ) → IsBytes elf → HasImage elf loaded → Ends loaded [] steps code (replicate 64 0)
+
 -- The verdict on a file of these bytes, over the program of an image. It is rejected as no file exactly
--- where the bytes are the spelling of none, and for its claim exactly where that is not accepted.
+-- where the bytes are the spelling of none, and for its claim exactly where that is not accepted. An
+-- accepted claim is that of a run, of as many steps as the file has valid rows.
 pub data Judges (sheet : Sheet) (loaded : Loaded) (bytes : List ℕ) (verdict : Verdict) : Type 0 where
   accepted : (v : FileValue) → IsFile (length (program_of loaded)) v → bytes ≡ spelling v → Accepts sheet (program_of loaded) loaded.entry v
-      → verdict ≡ Accepted (acceptance_of v.exit_code) → Judges sheet loaded bytes verdict
+      → RunsSo loaded (valid_rows sheet v.rows) v.exit_code → verdict ≡ Accepted (acceptance_of v.exit_code) → Judges sheet loaded bytes verdict
   no_file : ((v : FileValue) → IsFile (length (program_of loaded)) v → bytes ≢ spelling v) → verdict ≡ Rejected File → Judges sheet loaded bytes verdict
   no_claim : (v : FileValue) → IsFile (length (program_of loaded)) v → bytes ≡ spelling v → (Accepts sheet (program_of loaded) loaded.entry v → ⊥)
       → verdict ≡ Rejected Claim → Judges sheet loaded bytes verdict

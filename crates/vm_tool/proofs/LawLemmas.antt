@@ -49,12 +49,12 @@ meaning_is_one words (Some c) None a b = absurd (b c a.1 a.0)
 meaning_is_one words (Some c) (Some d) a b = ap Some (same_command c d a.1 b.1 (sym a.0 ∙ b.0))
 
 -- a refused file gives no image, so nothing else is answered
-refused_alone : (elf : List ℕ) (found : Answer) (loaded : Loaded) → RefusesElf elf found → GivesImage elf loaded → ⊥
+pub refused_alone : (elf : List ℕ) (found : Answer) (loaded : Loaded) → RefusesElf elf found → GivesImage elf loaded → ⊥
 refused_alone elf found loaded (too_long long is) g = omega (arith, long, g.short)
 refused_alone elf found loaded (refused error short r is) g = refused_has_no_image elf loaded error r g.image
 
 -- a file is refused with one answer
-refusal_answer_is_one : (elf : List ℕ) (a b : Answer) → RefusesElf elf a → RefusesElf elf b → a ≡ b
+pub refusal_answer_is_one : (elf : List ℕ) (a b : Answer) → RefusesElf elf a → RefusesElf elf b → a ≡ b
 refusal_answer_is_one elf a b (too_long long is) (too_long long' is') = is ∙ sym is'
 refusal_answer_is_one elf a b (too_long long is) (refused error short r is') = absurd (omega (arith, long, short))
 refusal_answer_is_one elf a b (refused error short r is) (too_long long is') = absurd (omega (arith, long, short))
@@ -83,7 +83,7 @@ run_answer_is_one elf hints limit a b (ended x) (hints_refused loaded image y) =
 run_answer_is_one elf hints limit a b (ended x) (ended y) = ends_are_one elf hints limit a b x y
 
 -- a call without a fault says the one answer that its words can have
-answered_by : (command : Option Command) (old new : HostState) (result : Status) (found : Answer) → Outcome command old new result → (Rose old.faults new.faults → ⊥) → ((other : Answer) → Says old.content command other → other ≡ found) → IsAnswered old new result found
+pub answered_by : (command : Option Command) (old new : HostState) (result : Status) (found : Answer) → Outcome command old new result → (Rose old.faults new.faults → ⊥) → ((other : Answer) → Says old.content command other → other ≡ found) → IsAnswered old new result found
 answered_by command old new result found (answered other says is text) quiet one =
     let same = one other says in
     inr (is ∙ ap status_of same, text ∙ ap (λ x. then_more old.said (text_of x)) same)

@@ -8,3 +8,4 @@ pub mod Checks
 pub mod Listings
 pub mod Spoken
 pub mod LawLemmas
+pub mod CheckLaws

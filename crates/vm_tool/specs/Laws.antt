@@ -1,5 +1,5 @@
 -- What follows from the contract of the top call.
-use Rattle.std.specs.Prelude.{◌≡◌, ◌⊎◌, ℕ, ◌<◌, ◌≤◌, List, length, Some, Option}
+use Rattle.std.specs.Prelude.{◌≡◌, ◌⊎◌, ℕ, ◌<◌, ◌≤◌, List, [], length, replicate, Some, Option}
 use Rattle.vm_host.specs.declared.Slot.TheVariants.{Elf, Second}
 use Rattle.vm_host.specs.State.{HostState, then_more}
 use Rattle.vm_host.specs.Calls.{Rose}
@@ -7,15 +7,22 @@ use Rattle.elf_image.specs.declared.ImageError.{ImageError}
 use Rattle.elf_image.specs.Loaded.{Loaded}
 use Rattle.elf_image.specs.Image.{HasImage, IsRefused}
 use Rattle.rv_run.specs.Run.{Ends}
+use Rattle.vm_isa.specs.Words.{IsBytes}
+use Rattle.air_core.specs.Nop.{nop_sheet}
+use Rattle.table_format.specs.File.{FileValue, IsFile, spelling}
+use Rattle.vm_transpile.specs.Program.{program_of}
+use Rattle.vm_checker.specs.Accepts.{Accepts, valid_rows}
+use Rattle.vm_checker.specs.Verdicts.{acceptance_of}
 use Rattle.vm_tool.specs.declared.answer.Answer.{Answer}
 use Rattle.vm_tool.specs.declared.answer.Answer.TheVariants as answer
 use Rattle.vm_tool.specs.declared.answer.Status.{Status}
 use Rattle.vm_tool.specs.declared.answer.Status.TheVariants as status
 use Rattle.vm_tool.specs.Answer.{status_of, text_of}
-use Rattle.vm_tool.specs.Command.{Command, Means, run, transpile}
+use Rattle.vm_tool.specs.Command.{Command, Means, run, transpile, check}
 use Rattle.vm_tool.specs.Files.{MAX_FILE}
 use Rattle.vm_tool.specs.RunCommand.{RunAnswers}
 use Rattle.vm_tool.specs.TranspileCommand.{TranspileAnswers}
+use Rattle.vm_tool.specs.CheckCommand.{CheckAnswers}
 use Rattle.vm_tool.specs.Outcome.{Answers}
 
 -- words have one meaning
@@ -79,6 +86,48 @@ TranspileIsDetermined = (old new : HostState) (result : Status) (elf elf_bytes :
     → (Rose old.faults new.faults → ⊥)
     → TranspileAnswers elf_bytes found
     → IsAnswered old new result found
+
+-- two files have one answer to `check`
+abbrev pub CheckAnswerIsOne : Type 0
+CheckAnswerIsOne = (elf tables : List ℕ) (a b : Answer) → CheckAnswers elf tables a → CheckAnswers elf tables b → a ≡ b
+
+-- where both files are told and no fault is counted, `check` gives the answer that the files have
+abbrev pub CheckIsDetermined : Type 0
+CheckIsDetermined = (old new : HostState) (result : Status) (elf tables elf_bytes table_bytes : List ℕ) (found : Answer)
+    → Answers (Some (check elf tables)) old new result
+    → old.content Elf elf ≡ Some elf_bytes → old.content Second tables ≡ Some table_bytes
+    → (Rose old.faults new.faults → ⊥)
+    → CheckAnswers elf_bytes table_bytes found
+    → IsAnswered old new result found
+
+-- where both files are told and no fault is counted, an accepted claim is answered with what it states
+abbrev pub CheckIsComplete : Type 0
+CheckIsComplete = (old new : HostState) (result : Status) (elf tables elf_bytes : List ℕ) (loaded : Loaded) (v : FileValue)
+    → Answers (Some (check elf tables)) old new result
+    → old.content Elf elf ≡ Some elf_bytes → old.content Second tables ≡ Some (spelling v)
+    → (Rose old.faults new.faults → ⊥)
+    → length elf_bytes ≤ MAX_FILE → HasImage elf_bytes loaded → IsFile (length (program_of loaded)) v
+    → Accepts (nop_sheet 8) (program_of loaded) loaded.entry v
+    → IsAnswered old new result (answer.Accepted (acceptance_of v.exit_code))
+
+-- The run that a table file states for an ELF file: the file spells its tables, and the manual's machine
+-- ends over the image with the stated code after as many steps as there are valid rows, without hints,
+-- and makes nothing public.
+pub record StatesRun (elf tables : List ℕ) (code : ℕ) : Type 0 where
+  pub loaded : Loaded
+  pub image : HasImage elf loaded
+  pub value : FileValue
+  pub spelled : tables ≡ spelling value
+  pub stated : value.exit_code ≡ code
+  pub ends : Ends loaded [] (valid_rows (nop_sheet 8) value.rows) code (replicate 64 0)
+
+-- where `check` of two files that are told is answered with status 0, the table file states a run, and
+-- the line says what it states
+abbrev pub AcceptedIsARun : Type 0
+AcceptedIsARun = (old new : HostState) (elf tables elf_bytes table_bytes : List ℕ)
+    → Answers (Some (check elf tables)) old new status.Done
+    → old.content Elf elf ≡ Some elf_bytes → old.content Second tables ≡ Some table_bytes → IsBytes elf_bytes
+    → (code : ℕ) × StatesRun elf_bytes table_bytes code × (new.said ≡ then_more old.said (text_of (answer.Accepted (acceptance_of code))))
 
 -- a host's fault is answered only where the host counted one
 abbrev pub FaultHasCause : Type 0

@@ -1,5 +1,5 @@
 // What follows from the contract of the top call.
-ghost use Rattle.vm_tool.specs.Laws.{FaultHasCause, LongElfIsSaid, MeaningIsOne, RefusedElfIsSaid, RunAnswerIsOne, RunIsComplete, RunIsDetermined, TranspileAnswerIsOne, TranspileIsDetermined};
+ghost use Rattle.vm_tool.specs.Laws.{AcceptedIsARun, CheckAnswerIsOne, CheckIsComplete, CheckIsDetermined, FaultHasCause, LongElfIsSaid, MeaningIsOne, RefusedElfIsSaid, RunAnswerIsOne, RunIsComplete, RunIsDetermined, TranspileAnswerIsOne, TranspileIsDetermined};
 
 /// Words are one command, or none.
 pub fn meaning_is_one()
@@ -41,6 +41,27 @@ pub fn transpile_answer_is_one()
 /// has, unless memory was refused.
 pub fn transpile_is_determined()
     ensures { TranspileIsDetermined }
+{}
+
+/// Two files have one answer to `check`.
+pub fn check_answer_is_one()
+    ensures { CheckAnswerIsOne }
+{}
+
+/// Over a host that tells both files and counts no fault, `check` gives the answer that the files
+/// have, unless memory was refused.
+pub fn check_is_determined()
+    ensures { CheckIsDetermined }
+{}
+
+/// A table file whose claim is accepted is answered with what it states.
+pub fn check_is_complete()
+    ensures { CheckIsComplete }
+{}
+
+/// Where `check` ends with status 0, the ELF file's program runs and ends as the table file states.
+pub fn accepted_is_a_run()
+    ensures { AcceptedIsARun }
 {}
 
 /// A host's fault is answered only where the host counted one.

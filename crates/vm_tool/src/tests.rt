@@ -1,4 +1,5 @@
 mod instructions;
+mod table_files;
 
 use crate::answer::Status;
 use crate::tool::openvm;
@@ -408,7 +409,10 @@ fn refused_words(rt: HostRuntime) -> Result<(), Fail> {
         "run",
         "",
         "Run a b 1",
-        "check a b",
+        "check a",
+        "check a b c",
+        "check",
+        "Check a b",
         "transpile",
         "transpile a b",
         "Transpile a",

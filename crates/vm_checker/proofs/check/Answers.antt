@@ -1,16 +1,23 @@
-use Rattle.std.proofs.Common.{length, ap, ◌∙◌, subst, refl}
-use Rattle.table_format.specs.File.{IsFile, value_of}
+use Rattle.std.proofs.Common.{length, ap, ◌∙◌, refl}
+use Rattle.table_format.specs.File.{value_of}
 use Rattle.vm_checker.proofs.Judging.{judged_file, judged_no_file}
+use Rattle.vm_checker.proofs.Runs.{accepted_is_run}
 use Rattle.vm_checker.proofs.check.Goals as goal
 
 pub returns-in-Ok : goal.returns-in-Ok
 returns-in-Ok g c =
+    let chip = c.args.chip.now in
+    let sheet = g.C.Chip.sheet chip in
+    let loaded = c.args.image.now in
+    let v = value_of c.in-Ok.file in
     let len = c.len.ensures ∙ ap length c.in_ok-program.ensures in
+    let file = rw len at c.in-Ok.ensures.good in
+    let runs = accepted_is_run sheet (g.met.C.Chip.fits chip) (g.met.C.Chip.buses chip) (g.met.C.Chip.sound chip) loaded v c.requires.table file in
     record {
       took = c.read_file.ensures.took;
       judged = rw c.judge.ensures
-          (judged_file (g.C.Chip.sheet c.args.chip.now) c.args.image.now (g.H.Host.state c.args.host.now) (value_of c.in-Ok.file) c.in_ok-accepted-in-Ok.accepted
-          (rw len at c.in-Ok.ensures.good) c.in-Ok.ensures.whole (rw (c.in_ok-program.ensures, c.entry.ensures) at c.in_ok-accepted-in-Ok.ensures));
+          (judged_file sheet loaded (g.H.Host.state c.args.host.now) v c.in_ok-accepted-in-Ok.accepted runs file
+          c.in-Ok.ensures.whole (rw (c.in_ok-program.ensures, c.entry.ensures) at c.in_ok-accepted-in-Ok.ensures));
       fault = λ e. absurd (cc);
     }
 

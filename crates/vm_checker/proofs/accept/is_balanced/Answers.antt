@@ -12,8 +12,7 @@ returns g c =
     let entries = rw c.deref-2.ensures.value at c.in_ok-hand_entries.ensures in
     let holds = entries.lists _ (rows.lists _ (c.in_ok-hand_connector.ensures.lists [] c.new-balance.ensures)) in
     let all = c.least_unbalanced.ensures.balanced (file_events sheet c.args.program.now v) holds in
-    let none = none_told c.least_unbalanced.result c.is_none.result c.is_none.ensures in
-    (
+    let none = none_told c.least_unbalanced.result c.is_none.result c.is_none.ensures in (
       λ t. on_two (file_events sheet c.args.program.now v) (all.0 (none.0 t)),
       λ balanced. none.1 (all.1 (on_all sheet c.args.program.now v c.requires.table balanced)),
     )

@@ -5,11 +5,10 @@ use Rattle.vm_checker.proofs.accept.rows_hold.Goals as goal
 pub returns-then-is_some : goal.returns-then-is_some
 returns-then-is_some g c =
     let sheet = g.C.Chip.sheet c.args.chip.now in
-    let row = c.row-item.result in
-    (
+    let row = c.row-item.result in (
       λ t. absurd (cc),
       λ all. absurd (broken_row sheet row c.first_broken.result c.first_broken.ensures c.if-is_some.ensures
-      (rw (c.row-item.is) (all_at_place (RowHolds sheet) c.args.rows.now c.loop-row.row-index row all c.loop-row-test.true))),
+          (rw (c.row-item.is) (all_at_place (RowHolds sheet) c.args.rows.now c.loop-row.row-index row all c.loop-row-test.true))),
     )
 
 pub loop-row-preserved : goal.loop-row-preserved
