@@ -7,12 +7,13 @@ use Rattle.elf_image.specs.Image.{HasImage}
 use Rattle.rv_run.specs.Machine.{Machine, start}
 use Rattle.rv_run.specs.Step.{goes, step_of}
 use Rattle.rv_run.specs.Run.{Goes, Ends}
+use Rattle.vm_isa.specs.declared.instr.VmInstr.{VmInstr}
 use Rattle.vm_isa.specs.Words.{IsBytes}
 use Rattle.vm_isa.specs.Blocks.{Blocks, VmState, VmStep, VmGoes, VmEnds, public_bytes_of}
 use Rattle.vm_transpile.specs.Program.{program_of}
 use Rattle.vm_transpile.specs.Start.{vm_start}
 use Rattle.vm_transpile.specs.Same.{IsMachine, Same}
-use Rattle.vm_transpile.specs.Refines.{HasText, HasRow, GoesForth, GoesBack, EndsByRow, EndsAlike, RunsEndAlike}
+use Rattle.vm_transpile.specs.Refines.{HasText, HasRow, StepsAlike, EndsAlike, RunsEndAlike}
 use Rattle.vm_transpile.proofs.Starts.{starts_are_same}
 use Rattle.vm_transpile.proofs.Refinement.{goes_forth, goes_back, ends_by_row, state_is_kept, went_text, ended_text}
 
@@ -80,3 +81,12 @@ module _ (bytes hints : List ℕ) (loaded : Loaded) (are : IsBytes bytes) (hint 
 pub runs_end_alike : RunsEndAlike
 runs_end_alike bytes loaded are image hints n code public_bytes hint =
     (ends_forth bytes hints loaded are hint image n code public_bytes, ends_back bytes hints loaded are hint image n code public_bytes)
+
+-- the program of a file's image
+
+pub steps_alike : (loaded : Loaded) (program : List VmInstr) → program ≡ program_of loaded → (bytes : List ℕ) → HasImage bytes loaded → StepsAlike loaded program
+steps_alike loaded program same bytes image =
+    subst (StepsAlike loaded) (sym same) (record { forth = goes_forth bytes loaded image; back = goes_back bytes loaded image; ends_by_row = ends_by_row bytes loaded image })
+
+pub ends_alike : (loaded : Loaded) (program : List VmInstr) → program ≡ program_of loaded → (bytes : List ℕ) → IsBytes bytes → HasImage bytes loaded → EndsAlike loaded program
+ends_alike loaded program same bytes are image = subst (EndsAlike loaded) (sym same) (runs_end_alike bytes loaded are image)

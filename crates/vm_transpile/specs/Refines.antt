@@ -27,26 +27,32 @@ HasEnd program pc code = (row : VmInstr) × Contains program row × (row.pc ≡ 
 -- ---- one step over a program
 
 -- A step that goes on, to where text stands, is a step on blocks.
-abbrev pub GoesForth : Loaded → Type 0
-GoesForth loaded = (m next : Machine) (s : VmState) → IsMachine m → Same m s → step_of loaded m ≡ goes next → HasText loaded next.pc
-    → (t : VmState) × VmStep (program_of loaded) s t × Same next t
+abbrev pub GoesForth : Loaded → List VmInstr → Type 0
+GoesForth loaded program = (m next : Machine) (s : VmState) → IsMachine m → Same m s → step_of loaded m ≡ goes next → HasText loaded next.pc
+    → (t : VmState) × VmStep program s t × Same next t
 
 -- A step on blocks, to where a row stands, is a step that goes on. Without that row it may be none: a
 -- jump to an address that is no multiple of 4 is a trap, and a step on blocks to where no row can stand.
-abbrev pub GoesBack : Loaded → Type 0
-GoesBack loaded = (m : Machine) (s t : VmState) → IsMachine m → Same m s → VmStep (program_of loaded) s t → HasRow (program_of loaded) t.pc
+abbrev pub GoesBack : Loaded → List VmInstr → Type 0
+GoesBack loaded program = (m : Machine) (s t : VmState) → IsMachine m → Same m s → VmStep program s t → HasRow program t.pc
     → (next : Machine) × (step_of loaded m ≡ goes next) × Same next t
 
 -- a program ends where its row says so
-abbrev pub EndsByRow : Loaded → Type 0
-EndsByRow loaded = (m : Machine) (code : ℕ) → IsMachine m → (step_of loaded m ≡ ends code) ↔ HasEnd (program_of loaded) m.pc code
+abbrev pub EndsByRow : Loaded → List VmInstr → Type 0
+EndsByRow loaded program = (m : Machine) (code : ℕ) → IsMachine m → (step_of loaded m ≡ ends code) ↔ HasEnd program m.pc code
+
+-- the steps of a program are those of the machine
+pub record StepsAlike (loaded : Loaded) (program : List VmInstr) : Type 0 where
+  pub forth : GoesForth loaded program
+  pub back : GoesBack loaded program
+  pub ends_by_row : EndsByRow loaded program
 
 -- ---- whole runs over a program
 
 -- the run on these hints ends after as many steps, with the same exit code and public bytes, on both
-abbrev pub EndsAlike : Loaded → Type 0
-EndsAlike loaded = (hints : List ℕ) (n code : ℕ) (public_bytes : List ℕ) → IsBytes hints
-    → Ends loaded hints n code public_bytes ↔ VmEnds (program_of loaded) (vm_start loaded hints) n code public_bytes
+abbrev pub EndsAlike : Loaded → List VmInstr → Type 0
+EndsAlike loaded program = (hints : List ℕ) (n code : ℕ) (public_bytes : List ℕ) → IsBytes hints
+    → Ends loaded hints n code public_bytes ↔ VmEnds program (vm_start loaded hints) n code public_bytes
 
 -- ---- the laws, over every file that has an image
 
@@ -58,13 +64,13 @@ StartsAreSame = (bytes hints : List ℕ) (loaded : Loaded) → IsBytes bytes →
     → IsMachine (start loaded hints) × Same (start loaded hints) (vm_start loaded hints)
 
 abbrev pub StepsGoForth : Type 0
-StepsGoForth = (bytes : List ℕ) (loaded : Loaded) → HasImage bytes loaded → GoesForth loaded
+StepsGoForth = (bytes : List ℕ) (loaded : Loaded) → HasImage bytes loaded → GoesForth loaded (program_of loaded)
 
 abbrev pub StepsGoBack : Type 0
-StepsGoBack = (bytes : List ℕ) (loaded : Loaded) → HasImage bytes loaded → GoesBack loaded
+StepsGoBack = (bytes : List ℕ) (loaded : Loaded) → HasImage bytes loaded → GoesBack loaded (program_of loaded)
 
 abbrev pub StepsEndByRows : Type 0
-StepsEndByRows = (bytes : List ℕ) (loaded : Loaded) → HasImage bytes loaded → EndsByRow loaded
+StepsEndByRows = (bytes : List ℕ) (loaded : Loaded) → HasImage bytes loaded → EndsByRow loaded (program_of loaded)
 
 abbrev pub RunsEndAlike : Type 0
-RunsEndAlike = (bytes : List ℕ) (loaded : Loaded) → IsBytes bytes → HasImage bytes loaded → EndsAlike loaded
+RunsEndAlike = (bytes : List ℕ) (loaded : Loaded) → IsBytes bytes → HasImage bytes loaded → EndsAlike loaded (program_of loaded)
