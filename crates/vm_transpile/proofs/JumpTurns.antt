@@ -132,8 +132,8 @@ module _ (m : Machine) (s : VmState) (is : IsMachine m) (h : Same m s) where
       (record {
         forced = forced2 i s p q row.places row.keep0 X Y (register m rs1) hx back hy;
         leads = state_is _ _ _ _ _ _ next
-        (after2 i s p q row.places row.keep0 X Y (register m rs1) _ hx back ∙ ap (with_block s.blocks 1 (4 * rs2)) (row.keep1 _ _ _ ∙ sym hy) ∙ with_block-same s.blocks 1 (4 * rs2))
-        (none_used (hints_used i.op) s.hints used);
+            (after2 i s p q row.places row.keep0 X Y (register m rs1) _ hx back ∙ ap (with_block s.blocks 1 (4 * rs2)) (row.keep1 _ _ _ ∙ sym hy) ∙ with_block-same s.blocks 1 (4 * rs2))
+            (none_used (hints_used i.op) s.hints used);
       })
       (λ free low. (can, branched_low taken address low))
       (λ done even low. branched taken address even)
@@ -207,8 +207,8 @@ module _ (m : Machine) (s : VmState) (is : IsMachine m) (h : Same m s) where
       (record {
         forced = forced2 i s p q row.places row.keep X Z (register m rs1) hx back refl;
         leads = state_is _ _ _ _ _ _ next
-        (after2 i s p q row.places row.keep X Z (register m rs1) _ hx back ∙ ap (with_block s.blocks 1 (4 * rd)) (row.new _ _ _))
-        (none_used (hints_used i.op) s.hints used);
+            (after2 i s p q row.places row.keep X Z (register m rs1) _ hx back ∙ ap (with_block s.blocks 1 (4 * rd)) (row.new _ _ _))
+            (none_used (hints_used i.op) s.hints used);
       })
       (λ free low. (can2 i s p q row.places row.keep X Z (register m rs1) hx back refl (bad ∙ low_target to low) (is_register rs1 one) (is_register rd d) (omega arith), same))
       (λ done even low. (even_target to even, same))
@@ -228,8 +228,8 @@ module _ (m : Machine) (s : VmState) (is : IsMachine m) (h : Same m s) where
       (record {
         forced = forced1 i s p row.places X hx;
         leads = state_is _ _ _ _ _ _ next
-        (after1 i s p row.places X _ ∙ ap (with_block s.blocks 1 (4 * rs1)) (row.keep _ _ _ ∙ sym hx) ∙ with_block-same s.blocks 1 (4 * rs1))
-        (none_used (hints_used i.op) s.hints used);
+            (after1 i s p row.places X _ ∙ ap (with_block s.blocks 1 (4 * rs1)) (row.keep _ _ _ ∙ sym hx) ∙ with_block-same s.blocks 1 (4 * rs1))
+            (none_used (hints_used i.op) s.hints used);
       })
       (λ free low. (can1 i s p row.places X hx (bad ∙ low_target to low) (is_register rs1 one) (omega arith), same_stays m s to h))
       (λ done even low. (even_target to even, same_stays m s to h))

@@ -124,7 +124,7 @@ module _ (m : Machine) (is : IsMachine m) where
         bytes = is.bytes;
         public_count = length-append (take place m.public_bytes) (little_bytes 4 w ++ drop (place + 4) m.public_bytes) ∙ omega arith;
         public_bytes = all_append (take place m.public_bytes) (little_bytes 4 w ++ drop (place + 4) m.public_bytes) (all_take place m.public_bytes is.public_bytes)
-        (all_append (little_bytes 4 w) (drop (place + 4) m.public_bytes) (word_bytes w) (all_drop (place + 4) m.public_bytes is.public_bytes));
+            (all_append (little_bytes 4 w) (drop (place + 4) m.public_bytes) (word_bytes w) (all_drop (place + 4) m.public_bytes is.public_bytes));
         hints = is.hints;
       }
 

@@ -133,8 +133,8 @@ module _ (m : Machine) (s : VmState) (is : IsMachine m) (h : Same m s) where
       (record {
         forced = forced3 i s p q r loads.places loads.keep0 keep X Y Z (register m rs1) hx back refl refl;
         leads = state_is _ _ _ _ _ _ (loads.next _)
-        (after3 i s p q r loads.places loads.keep0 keep X Y Z (register m rs1) _ hx back refl ∙ ap (with_block s.blocks 1 (4 * rd)) (new _))
-        (none_used (hints_used i.op) s.hints used);
+            (after3 i s p q r loads.places loads.keep0 keep X Y Z (register m rs1) _ hx back refl ∙ ap (with_block s.blocks 1 (4 * rd)) (new _))
+            (none_used (hints_used i.op) s.hints used);
       })
       (λ free low.
       let good : is_bad (load_width kind) a ≡ false = free_fits (load_width kind) a free in
@@ -161,8 +161,8 @@ module _ (m : Machine) (s : VmState) (is : IsMachine m) (h : Same m s) where
       (record {
         forced = forced2 i s p q loads.places loads.keep0 X Y (register m rs1) hx back refl;
         leads = state_is _ _ _ _ _ _ (loads.next _)
-        (after2 i s p q loads.places loads.keep0 X Y (register m rs1) _ hx back ∙ ap (with_block s.blocks 2 (a - a % 4)) (loads.keep1 _ _ _) ∙ with_block-same s.blocks 2 (a - a % 4))
-        (none_used (hints_used i.op) s.hints used);
+            (after2 i s p q loads.places loads.keep0 X Y (register m rs1) _ hx back ∙ ap (with_block s.blocks 2 (a - a % 4)) (loads.keep1 _ _ _) ∙ with_block-same s.blocks 2 (a - a % 4))
+            (none_used (hints_used i.op) s.hints used);
       })
       (λ free low.
       let good : is_bad (load_width kind) a ≡ false = free_fits (load_width kind) a free in

@@ -83,8 +83,8 @@ module _ (m : Machine) (s : VmState) (is : IsMachine m) (h : Same m s) where
         acts = record {
           forced = forced3 i s p q r makes.places makes.keep0 keep X Y Z (register m rs1) hx back hy refl;
           leads = state_is _ _ _ _ _ _ (makes.next _)
-          (after3 i s p q r makes.places makes.keep0 keep X Y Z (register m rs1) _ hx back hy ∙ ap (with_block s.blocks 1 (4 * rd)) (new _))
-          (none_used (hints_used i.op) s.hints used);
+              (after3 i s p q r makes.places makes.keep0 keep X Y Z (register m rs1) _ hx back hy ∙ ap (with_block s.blocks 1 (4 * rd)) (new _))
+              (none_used (hints_used i.op) s.hints used);
         };
       }
 
@@ -104,8 +104,8 @@ module _ (m : Machine) (s : VmState) (is : IsMachine m) (h : Same m s) where
         acts = record {
           forced = forced2 i s p q makes.places makes.keep X Z (register m rs1) hx back refl;
           leads = state_is _ _ _ _ _ _ (makes.next _)
-          (after2 i s p q makes.places makes.keep X Z (register m rs1) _ hx back ∙ ap (with_block s.blocks 1 (4 * rd)) (new _))
-          (none_used (hints_used i.op) s.hints used);
+              (after2 i s p q makes.places makes.keep X Z (register m rs1) _ hx back ∙ ap (with_block s.blocks 1 (4 * rd)) (new _))
+              (none_used (hints_used i.op) s.hints used);
         };
       }
 
@@ -120,8 +120,8 @@ module _ (m : Machine) (s : VmState) (is : IsMachine m) (h : Same m s) where
         acts = record {
           forced = forced1 i s p makes.places Z refl;
           leads = state_is _ _ _ _ _ _ (makes.next _)
-          (after1 i s p makes.places Z _ ∙ ap (with_block s.blocks 1 (4 * rd)) (makes.new Z _))
-          (none_used (hints_used i.op) s.hints used);
+              (after1 i s p makes.places Z _ ∙ ap (with_block s.blocks 1 (4 * rd)) (makes.new Z _))
+              (none_used (hints_used i.op) s.hints used);
         };
       }
 

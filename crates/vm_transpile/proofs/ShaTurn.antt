@@ -269,11 +269,12 @@ module _ (m : Machine) (s : VmState) (is : IsMachine m) (h : Same m s) where
         leads = state_is _ _ _ _ _ _ (sha_next m.pc state block olds) (sha_after i s pl quiet X Y b c hx hb hy hc (take 4 s.hints)) refl;
       })
       (λ free low.
-      let at = free_at b c free in
-      (sha_can i s pl quiet X Y b c hx hb hy hc (bad ∙ low_both (is_high b) (is_high c) (not_high b (let l = at.low_state in omega arith)) (not_high c (let l = at.low_block in omega arith)))
-      (is_register state one) (is_register block two)
-      (λ j less. is_word c j at.even_block (let l = at.low_block in omega arith)) (λ j less. is_word b j at.even_state (let l = at.low_state in omega arith)) (let none : 0 ≤ length s.hints = omega arith in none),
-      sha_state state block at X Y (take 4 s.hints) zs refl))
+      let at = free_at b c free in (
+        sha_can i s pl quiet X Y b c hx hb hy hc (bad ∙ low_both (is_high b) (is_high c) (not_high b (let l = at.low_state in omega arith)) (not_high c (let l = at.low_block in omega arith)))
+            (is_register state one) (is_register block two)
+            (λ j less. is_word c j at.even_block (let l = at.low_block in omega arith)) (λ j less. is_word b j at.even_state (let l = at.low_state in omega arith)) (let none : 0 ≤ length s.hints = omega arith in none),
+        sha_state state block at X Y (take 4 s.hints) zs refl,
+      ))
       (λ can even low.
       let fits = both_low (is_high b) (is_high c) (sym bad ∙ can.fits) in
       let on = sha_blocks i s pl quiet X Y b c hx hb hy hc can in

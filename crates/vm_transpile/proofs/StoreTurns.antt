@@ -155,8 +155,8 @@ module _ (m : Machine) (s : VmState) (is : IsMachine m) (h : Same m s) where
       (record {
         forced = forced3 i s p q r row.places row.keep0 keep X Y Z (register m rs1) hx back hy refl;
         leads = state_is _ _ _ _ _ _ (row.next _)
-        (after3 i s p q r row.places row.keep0 keep X Y Z (register m rs1) _ hx back hy ∙ ap (with_block s.blocks 2 (a - a % 4)) (new _))
-        (none_used (hints_used i.op) s.hints used);
+            (after3 i s p q r row.places row.keep0 keep X Y Z (register m rs1) _ hx back hy ∙ ap (with_block s.blocks 2 (a - a % 4)) (new _))
+            (none_used (hints_used i.op) s.hints used);
       })
       (λ free low.
       let good : is_bad (store_width kind) a ≡ false = free_fits (store_width kind) a free in
@@ -198,17 +198,18 @@ module _ (m : Machine) (s : VmState) (is : IsMachine m) (h : Same m s) where
       (record {
         forced = forced2 i s p q row.places row.keep X Y (register m base) hx back refl;
         leads = state_is _ _ _ _ _ _ (row.next _)
-        (after2 i s p q row.places row.keep X Y (register m base) _ hx back ∙ ap (with_block s.blocks 2 a) (row.new _ _ _))
-        (ap (λ (n : ℕ). drop n s.hints) used);
+            (after2 i s p q row.places row.keep X Y (register m base) _ hx back ∙ ap (with_block s.blocks 2 a) (row.new _ _ _))
+            (ap (λ (n : ℕ). drop n s.hints) used);
       })
       (λ free low.
       let parts = hint_parts m (at_address 4 a) (nat_lt (length m.hints) 4) refl free in
       let good : is_bad 4 a ≡ false = free_fits 4 a parts.0 in
       let many : 4 ≤ length m.hints = parts.1 in
       let even : a % 4 ≡ 0 = fits_aligned 4 a good in
-      let here : a - a % 4 ≡ a = omega arith in
-      (can2 i s p q row.places row.keep X Y (register m base) hx back refl (bad ∙ good) (is_register base one) (subst (λ (n : ℕ). is_block 2 n ≡ true) here (is_memory a (fits_low 4 a good))) (omega arith),
-      hint_same a good parts.1))
+      let here : a - a % 4 ≡ a = omega arith in (
+        can2 i s p q row.places row.keep X Y (register m base) hx back refl (bad ∙ good) (is_register base one) (subst (λ (n : ℕ). is_block 2 n ≡ true) here (is_memory a (fits_low 4 a good))) (omega arith),
+        hint_same a good parts.1,
+      ))
       (λ can even low.
       let good : is_bad 4 a ≡ false = sym bad ∙ can.fits in
       let enough : hints_used i.op ≤ length s.hints = can.enough in
@@ -241,13 +242,14 @@ module _ (m : Machine) (s : VmState) (is : IsMachine m) (h : Same m s) where
       (record {
         forced = forced3 i s p q r row.places row.keep0 keep X Y Z (register m base) hx back hy refl;
         leads = state_is _ _ _ _ _ _ (row.next _)
-        (after3 i s p q r row.places row.keep0 keep X Y Z (register m base) _ hx back hy ∙ ap (with_block s.blocks 3 a) (row.new _ _ _ _))
-        (none_used (hints_used i.op) s.hints used);
+            (after3 i s p q r row.places row.keep0 keep X Y Z (register m base) _ hx back hy ∙ ap (with_block s.blocks 3 a) (row.new _ _ _ _))
+            (none_used (hints_used i.op) s.hints used);
       })
       (λ free low.
-      let parts = public_free a free in
-      (can3 i s p q r row.places row.keep0 keep X Y Z (register m base) hx back hy refl (bad ∙ good_low a parts.0 parts.1) (is_register base one) (is_register rs1 two) (block_from_public a parts.0 parts.1) (omega arith),
-      same parts.0 parts.1))
+      let parts = public_free a free in (
+        can3 i s p q r row.places row.keep0 keep X Y Z (register m base) hx back hy refl (bad ∙ good_low a parts.0 parts.1) (is_register base one) (is_register rs1 two) (block_from_public a parts.0 parts.1) (omega arith),
+        same parts.0 parts.1,
+      ))
       (λ can even low.
       let on = blocks3 i s p q r row.places row.keep0 keep X Y Z (register m base) back can in
       let parts = block_parts a on.2 in

@@ -38,8 +38,8 @@ same_put m s pc rd w word is h low some e =
     record {
       pc = refl;
       registers = λ r at.
-      put_by s.blocks m.registers rd r w word (nat_eq (4 * r) (4 * rd)) refl (omega arith) e (h.registers r at)
-      ∙ ap (λ (xs : List ℕ). limbs_of (slice_index xs r)) (sym (registers_put m rd w some));
+          put_by s.blocks m.registers rd r w word (nat_eq (4 * r) (4 * rd)) refl (omega arith) e (h.registers r at)
+          ∙ ap (λ (xs : List ℕ). limbs_of (slice_index xs r)) (sym (registers_put m rd w some));
       memory = h.memory;
       public_bytes = h.public_bytes;
       hints = h.hints;
