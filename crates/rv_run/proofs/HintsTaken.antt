@@ -1,10 +1,10 @@
 -- A run depends on the hint bytes that it takes.
-use Rattle.std.proofs.Common.{◌≡◌, ℕ, zero, suc, ◌+◌, ◌<◌, ◌≤◌, Bool, true, false, nat_lt, List, [], ◌++◌, length, length-append, length-take, take, drop, append_assoc, Option, None, Some, refl, sym, ap, ◌∙◌, subst, arith}
+use Rattle.std.proofs.Common.{◌≡◌, ℕ, zero, suc, ◌+◌, ◌≤◌, Bool, true, false, nat_lt, List, [], ◌++◌, length, length-append, length-take, take, drop, append_assoc, Option, None, Some, refl, sym, ap, ◌∙◌, subst, arith}
 use Rattle.std.specs.Prelude.{if◌then◌else◌}
 use Rattle.std.proofs.Math.Seq.{drop-append_seam, take-append_seam}
 use Rattle.std.proofs.lemmas.Bool.Decides.{nat_tests}
 use Rattle.std.proofs.lemmas.List.{take-append-drop}
-use Rattle.elf_image.specs.Loaded.{Loaded, word_of}
+use Rattle.elf_image.specs.Loaded.{word_of}
 use Rattle.rv_decode.specs.declared.instr.Instr.{Instr}
 use Rattle.rv_decode.specs.declared.instr.Instr.TheVariants.{Lui, Auipc, Jal, Jalr, Branch, Load, Store, AluImm, Alu, MulDiv, Fence, Terminate, HintStore, Reveal, ShaBlock}
 use Rattle.rv_decode.specs.Listing.{decode_of}
@@ -13,7 +13,7 @@ use Rattle.rv_run.specs.declared.outcome.Cause.{Cause}
 use Rattle.rv_run.specs.declared.outcome.Cause.TheVariants.{HintsEnd}
 use Rattle.rv_run.specs.Machine.{Machine}
 use Rattle.rv_run.specs.Memory.{with_bytes}
-use Rattle.rv_run.specs.Step.{Next, goes, goes_on, jumps, address_of, at_address, branch_taken, obstacle, or_hints_end, performed, step_by, step_at_instr, step_at_word, step_of, unless}
+use Rattle.rv_run.specs.Step.{Next, goes, goes_on, jumps, address_of, at_address, branch_taken, obstacle, or_hints_end, performed, step_by, step_at_instr, step_at_word, unless}
 use Rattle.rv_run.specs.Run.{Goes}
 use Rattle.rv_run.specs.Laws.{RunTakesHints}
 
@@ -77,14 +77,14 @@ hint_taken m next base imm free performs =
       taken = used;
       are = sym (take-append-drop 4 m.hints) ∙ ap (λ (x : Machine). used ++ x.hints) is;
       others = λ rest.
-      let other : Machine = with_hints m (used ++ rest) in
-      let front : take 4 (used ++ rest) ≡ used = ap (λ (k : ℕ). take k (used ++ rest)) (sym four) ∙ take-append_seam used rest in
-      let back : drop 4 (used ++ rest) ≡ rest = ap (λ (k : ℕ). drop k (used ++ rest)) (sym four) ∙ drop-append_seam used rest in
-      let long : length (used ++ rest) ≡ length used + length rest = length-append used rest in
-      let goes_there : obstacle other (HintStore base imm) ≡ None = hint_whole other (at_address 4 a) parts.0 (omega arith) in
-      ap (λ (o : Option Cause). unless other o (performed other (HintStore base imm))) goes_there
-      ∙ (λ j. goes (hint_next m a (front j) (back j)))
-      ∙ ap (λ (x : Machine). goes (with_hints x rest)) is;
+          let other : Machine = with_hints m (used ++ rest) in
+          let front : take 4 (used ++ rest) ≡ used = ap (λ (k : ℕ). take k (used ++ rest)) (sym four) ∙ take-append_seam used rest in
+          let back : drop 4 (used ++ rest) ≡ rest = ap (λ (k : ℕ). drop k (used ++ rest)) (sym four) ∙ drop-append_seam used rest in
+          let long : length (used ++ rest) ≡ length used + length rest = length-append used rest in
+          let goes_there : obstacle other (HintStore base imm) ≡ None = hint_whole other (at_address 4 a) parts.0 (omega arith) in
+          ap (λ (o : Option Cause). unless other o (performed other (HintStore base imm))) goes_there
+          ∙ (λ j. goes (hint_next m a (front j) (back j)))
+          ∙ ap (λ (x : Machine). goes (with_hints x rest)) is;
     }
 
 instr_takes : (m next : Machine) (instr : Instr) → obstacle m instr ≡ None → performed m instr ≡ goes next → Takes m next (λ n. step_by n instr)

@@ -1,14 +1,11 @@
 -- The turns of branches and jumps.
-use Rattle.std.proofs.Common.{◌≡◌, ℕ, ◌+◌, ◌-◌, ◌*◌, ◌%◌, ◌^◌, ◌<◌, ◌≤◌, ◌==◌, Bool, true, false, cond, ◌&&◌, ◌||◌, not, nat_eq, nat_lt, None, Some, Option, if◌then◌else◌, length, List, [], ◌∷◌, take, refl, sym, ap, ◌∙◌, subst, arith, ⊎_elim}
-use Rattle.std.proofs.lemmas.Bool.{cases_lt}
+use Rattle.std.proofs.Common.{◌≡◌, ℕ, ◌-◌, ◌*◌, ◌%◌, ◌^◌, ◌<◌, ◌≤◌, ◌==◌, Bool, true, false, cond, not, nat_lt, None, if◌then◌else◌, length, List, [], ◌∷◌, take, refl, sym, ap, ◌∙◌, subst, arith}
 use Rattle.std.proofs.lemmas.Bool.Decides.{nat_tests}
 use Rattle.rv_decode.specs.declared.instr.Instr.TheVariants.{Branch, Jal, Jalr}
 use Rattle.rv_decode.specs.declared.instr.BranchKind.{BranchKind}
 use Rattle.rv_decode.specs.declared.instr.BranchKind.TheVariants.{Beq}
 use Rattle.vm_word.specs.Word.{limbs_of, word_of_limbs}
 use Rattle.vm_word.specs.Arithmetic.{word_sum}
-use Rattle.rv_run.specs.declared.outcome.Cause.{Cause}
-use Rattle.rv_run.specs.declared.outcome.Cause.TheVariants.{MisalignedTarget}
 use Rattle.rv_run.specs.Machine.{Machine}
 use Rattle.rv_run.specs.Step.{register, goes, goes_on, jumps, put, at_target, jalr_target}
 use Rattle.rv_run.specs.Step.{is_taken as is_taken_by}
@@ -19,10 +16,10 @@ use Rattle.vm_isa.specs.Blocks.{VmState, with_block, hints_used}
 use Rattle.vm_isa.proofs.ReadsKept.{with_block-same}
 use Rattle.vm_isa.proofs.RowSteps.{Can}
 use Rattle.vm_isa.proofs.Shapes.{forced0, can0, after0, forced1, can1, after1, forced2, can2, after2}
-use Rattle.vm_transpile.specs.Rows.{branch_form, branch_opcode, jal_row, load_form, within_program, target_of, bare, row_of}
+use Rattle.vm_transpile.specs.Rows.{branch_opcode, within_program, target_of, bare, row_of}
 use Rattle.vm_isa.specs.declared.opcode.TheConstants.{JAL, JALR}
 use Rattle.vm_transpile.specs.Same.{IsMachine, Same}
-use Rattle.vm_transpile.proofs.Turns.{Acts, Turns, turns, state_is, is_register, word_back}
+use Rattle.vm_transpile.proofs.Turns.{Turns, turns, state_is, is_register, word_back}
 use Rattle.vm_transpile.proofs.Operations.{none_used}
 use Rattle.vm_transpile.proofs.Updates.{same_put, same_stays, put_x0}
 use Rattle.vm_transpile.proofs.MemoryTurns.{tested, imm_word}

@@ -1,9 +1,8 @@
 -- One step on both machines.
 use Rattle.std.proofs.Common.{◌≡◌, ℕ, ◌%◌, ◌^◌, ◌<◌, ◌==◌, Bool, true, false, cond, List, None, Some, Option, refl, sym, ap, ◌∙◌, subst, arith}
-use Rattle.std.specs.Prelude.{IfSome, ◌↔◌, Contains, slice_index}
+use Rattle.std.specs.Prelude.{Contains, slice_index}
 use Rattle.elf_image.specs.Loaded.{Loaded, word_of}
 use Rattle.elf_image.specs.Image.{HasImage}
-use Rattle.elf_image.proofs.Members.{In, in_from_Contains}
 use Rattle.rv_decode.specs.declared.instr.Instr.{Instr}
 use Rattle.rv_decode.specs.declared.instr.Instr.TheVariants.{Lui, Auipc, Jal, Jalr, Branch, Load, Store, AluImm, Alu, MulDiv, Fence, Terminate, HintStore, Reveal, ShaBlock}
 use Rattle.rv_decode.specs.declared.instr.AluOp.{AluOp}
@@ -25,12 +24,12 @@ use Rattle.rv_run.specs.Machine.{Machine}
 use Rattle.rv_run.specs.Step.{Next, goes, ends, traps, obstacle, performed, step_by, step_at_instr, step_at_word, step_of, unless}
 use Rattle.vm_isa.specs.declared.instr.VmInstr.{VmInstr}
 use Rattle.vm_isa.specs.Means.{is_refused}
-use Rattle.vm_isa.specs.Blocks.{VmState, VmStep}
+use Rattle.vm_isa.specs.Blocks.{VmState}
 use Rattle.vm_isa.proofs.RowSteps.{By, step_by_row, row_steps}
 use Rattle.vm_transpile.specs.Rows.{alu_opcode, load_opcode, store_opcode, branch_opcode, mul_div_opcode, nop_row, terminate_row, row_of}
 use Rattle.vm_transpile.specs.Program.{row_at, program_of}
 use Rattle.vm_transpile.specs.Same.{IsMachine, Same}
-use Rattle.vm_transpile.specs.Refines.{HasText, HasRow, HasEnd, StateIsKept, StepsGoForth, StepsGoBack, StepsEndByRows}
+use Rattle.vm_transpile.specs.Refines.{HasText, StateIsKept, StepsGoForth, StepsGoBack, StepsEndByRows}
 use Rattle.vm_transpile.proofs.Texts.{row_at-decoded, row_at-pc, word_aligned, rows_of_text, text_has_rows}
 use Rattle.vm_transpile.proofs.Ranges.{word_low, fields_in_range}
 use Rattle.vm_transpile.proofs.Turns.{Turns}

@@ -1,15 +1,13 @@
 -- Whole runs on both machines.
-use Rattle.std.proofs.Common.{◌≡◌, ℕ, zero, suc, ◌+◌, ◌*◌, ◌<◌, ◌≤◌, List, [], ◌∷◌, ◌++◌, length, take, drop, take-add, drop-drop, take_all, refl, sym, ap, ◌∙◌, subst, arith}
-use Rattle.std.specs.Prelude.{◌↔◌, slice_index}
+use Rattle.std.proofs.Common.{◌≡◌, ℕ, zero, suc, ◌+◌, ◌*◌, ◌<◌, List, ◌++◌, length, take, drop, take-add, drop-drop, take_all, refl, sym, ap, ◌∙◌, subst, arith}
 use Rattle.std.specs.List.{flat_map, range_with_len}
 use Rattle.elf_image.specs.Loaded.{Loaded}
 use Rattle.elf_image.specs.Image.{HasImage}
 use Rattle.rv_run.specs.Machine.{Machine, start}
-use Rattle.rv_run.specs.Step.{goes, step_of}
 use Rattle.rv_run.specs.Run.{Goes, Ends}
 use Rattle.vm_isa.specs.declared.instr.VmInstr.{VmInstr}
 use Rattle.vm_isa.specs.Words.{IsBytes}
-use Rattle.vm_isa.specs.Blocks.{Blocks, VmState, VmStep, VmGoes, VmEnds, public_bytes_of}
+use Rattle.vm_isa.specs.Blocks.{VmState, VmGoes, VmEnds, public_bytes_of}
 use Rattle.vm_transpile.specs.Program.{program_of}
 use Rattle.vm_transpile.specs.Start.{vm_start}
 use Rattle.vm_transpile.specs.Same.{IsMachine, Same}

@@ -1,5 +1,5 @@
 -- The turn of a SHA block.
-use Rattle.std.proofs.Common.{◌≡◌, ℕ, zero, suc, ◌+◌, ◌-◌, ◌*◌, ◌%◌, ◌^◌, ◌<◌, ◌≤◌, ◌==◌, Bool, true, false, cond, ◌&&◌, ◌||◌, not, nat_eq, nat_lt, None, Some, Option, if◌then◌else◌, length, List, [], ◌∷◌, ◌++◌, map, take, drop, get_or, drop-cons, refl, sym, ap, ◌∙◌, subst, arith}
+use Rattle.std.proofs.Common.{◌≡◌, ℕ, zero, suc, ◌+◌, ◌-◌, ◌*◌, ◌%◌, ◌^◌, ◌<◌, ◌≤◌, ◌==◌, Bool, true, false, cond, ◌&&◌, ◌||◌, not, nat_eq, nat_lt, None, Some, Option, length, List, [], ◌∷◌, ◌++◌, map, take, drop, drop-cons, refl, sym, ap, ◌∙◌, subst, arith}
 use Rattle.std.specs.Prelude.{nat_le, slice_index}
 use Rattle.std.specs.List.{concat, range_with_len}
 use Rattle.std.proofs.Math.ListN.{drop_of_length-le}
@@ -16,14 +16,13 @@ use Rattle.rv_run.specs.Memory.{number_at, with_bytes, with_words}
 use Rattle.rv_run.specs.Step.{register, goes_on, jumps, store_words, at_block, words_at, bytes_at}
 use Rattle.rv_run.specs.Step.{compressed as compressed_by}
 use Rattle.vm_isa.specs.declared.instr.VmInstr.{VmInstr}
-use Rattle.vm_isa.specs.Means.{Accessed, accessed_by, compressed, is_high, is_refused, bars_first, bars_second, memory, memory_from, new_at, next_of, place, places_by, sha_places, word_at}
-use Rattle.vm_isa.specs.Blocks.{Blocks, VmState, with_block, after_accesses, hints_used, is_block}
+use Rattle.vm_isa.specs.Means.{accessed_by, compressed, is_high, is_refused, bars_first, bars_second, memory, memory_from, new_at, next_of, places_by, sha_places, word_at}
+use Rattle.vm_isa.specs.Blocks.{Blocks, VmState, with_block, after_accesses, is_block}
 use Rattle.vm_isa.proofs.ReadsKept.{look}
-use Rattle.vm_isa.proofs.RowSteps.{Can}
 use Rattle.vm_isa.proofs.ShaShape.{sha_olds, sha_forced, sha_blocks, sha_can, sha_after}
 use Rattle.vm_transpile.specs.Rows.{sha_row, row_of}
 use Rattle.vm_transpile.specs.Same.{IsMachine, Same, memory_block}
-use Rattle.vm_transpile.proofs.Turns.{Acts, Turns, turns, state_is, is_register, word_back}
+use Rattle.vm_transpile.proofs.Turns.{Turns, turns, state_is, is_register, word_back}
 use Rattle.vm_transpile.proofs.Updates.{same_stays, same_store}
 use Rattle.vm_transpile.proofs.StoreTurns.{whole_block}
 use Rattle.vm_transpile.proofs.WordBytes.{limbs-are}

@@ -1,6 +1,5 @@
 -- The turns of stores, hint stores and reveals.
-use Rattle.std.proofs.Common.{◌≡◌, ℕ, zero, suc, ◌+◌, ◌-◌, ◌*◌, ◌%◌, ◌^◌, ◌<◌, ◌≤◌, ◌==◌, Bool, true, false, cond, ◌&&◌, not, nat_eq, nat_lt, None, Some, Option, if◌then◌else◌, length, length-take, List, [], ◌∷◌, take, drop, refl, sym, ap, ◌∙◌, subst, arith, ⊎_elim}
-use Rattle.std.proofs.lemmas.Bool.{cases_lt}
+use Rattle.std.proofs.Common.{◌≡◌, ℕ, ◌+◌, ◌-◌, ◌*◌, ◌%◌, ◌^◌, ◌<◌, ◌≤◌, Bool, true, false, cond, ◌&&◌, nat_eq, nat_lt, None, Some, Option, length, length-take, List, [], ◌∷◌, take, drop, refl, sym, ap, ◌∙◌, subst, arith}
 use Rattle.std.proofs.lemmas.Bool.Decides.{nat_tests}
 use Rattle.byteorder.specs.Endian.{little_bytes}
 use Rattle.rv_decode.specs.declared.instr.Instr.TheVariants.{Store, HintStore, Reveal}
@@ -17,14 +16,13 @@ use Rattle.vm_isa.specs.declared.instr.VmInstr.{VmInstr}
 use Rattle.vm_isa.specs.Results.{width_of, with_low}
 use Rattle.vm_isa.specs.Means.{is_refused, bars_first, bars_second, imm_of, is_bad, new_at, next_of, place, places_by, word_at}
 use Rattle.vm_isa.specs.Blocks.{VmState, with_block, hints_used, is_block}
-use Rattle.vm_isa.proofs.RowSteps.{Can}
-use Rattle.vm_isa.proofs.Shapes.{forced2, can2, blocks2, after2, forced3, can3, blocks3, after3}
-use Rattle.vm_transpile.specs.Rows.{store_form, store_opcode, hint_row, reveal_row, bare, row_of}
+use Rattle.vm_isa.proofs.Shapes.{forced2, can2, after2, forced3, can3, blocks3, after3}
+use Rattle.vm_transpile.specs.Rows.{store_opcode, hint_row, reveal_row, bare, row_of}
 use Rattle.vm_transpile.specs.Same.{IsMachine, Same, memory_block}
-use Rattle.vm_transpile.proofs.Turns.{Acts, Turns, turns, state_is, is_register, word_back}
+use Rattle.vm_transpile.proofs.Turns.{Turns, turns, state_is, is_register, word_back}
 use Rattle.vm_transpile.proofs.Operations.{none_used}
 use Rattle.vm_transpile.proofs.Updates.{same_store, same_public}
-use Rattle.vm_transpile.proofs.WordBytes.{four, block-with, stored_here, store_fits}
+use Rattle.vm_transpile.proofs.WordBytes.{block-with, stored_here, store_fits}
 use Rattle.vm_transpile.proofs.MemoryTurns.{free_fits, fits_free, fits_aligned, fits_low, is_memory, tested, imm_word}
 
 -- ---- the rows
