@@ -218,7 +218,7 @@ end_row pc (Branch kind rs1 rs2 offset) e = absurd (branch_other kind e)
 end_row pc _ e = absurd (omega arith)
 
 pub ends_by_row : StepsEndByRows
-ends_by_row bytes loaded image m code is = (
+ends_by_row bytes loaded image m code = (
   λ step.
       let at = stands loaded m (ends code) (ends_moves code) step in
       let instr : at.0 ≡ Terminate code = ended_instr m at.0 code (end_by m (obstacle m at.0) (performed m at.0) code at.2) in

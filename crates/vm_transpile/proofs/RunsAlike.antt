@@ -11,7 +11,7 @@ use Rattle.vm_isa.specs.Blocks.{VmState, VmGoes, VmEnds, public_bytes_of}
 use Rattle.vm_transpile.specs.Program.{program_of}
 use Rattle.vm_transpile.specs.Start.{vm_start}
 use Rattle.vm_transpile.specs.Same.{IsMachine, Same}
-use Rattle.vm_transpile.specs.Refines.{HasText, HasRow, StepsAlike, EndsAlike, RunsEndAlike}
+use Rattle.vm_transpile.specs.Refines.{HasText, HasRow, StepsAlike, EndsAlike, RunsGoForth, RunsGoBack, RunsEndAlike}
 use Rattle.vm_transpile.proofs.Starts.{starts_are_same}
 use Rattle.vm_transpile.proofs.Refinement.{goes_forth, goes_back, ends_by_row, state_is_kept, went_text, ended_text}
 
@@ -54,7 +54,7 @@ module _ (bytes hints : List ℕ) (loaded : Loaded) (are : IsBytes bytes) (hint 
   ends_forth : (n code : ℕ) (public_bytes : List ℕ) → Ends loaded hints n code public_bytes → VmEnds (program_of loaded) (vm_start loaded hints) n code public_bytes
   ends_forth n code public_bytes e =
       let last = forth n e.last e.reached (ended_text loaded e.last code e.ended) in
-      let row = (ends_by_row bytes loaded image e.last code last.2).0 e.ended in
+      let row = (ends_by_row bytes loaded image e.last code).0 e.ended in
       record {
         last = last.0;
         reached = last.1;
@@ -72,9 +72,15 @@ module _ (bytes hints : List ℕ) (loaded : Loaded) (are : IsBytes bytes) (hint 
       record {
         last = last.0;
         reached = last.1;
-        ended = (ends_by_row bytes loaded image last.0 code last.2).1 (e.row, e.stands, e.here ∙ last.3.pc, e.is_end, e.states);
+        ended = (ends_by_row bytes loaded image last.0 code).1 (e.row, e.stands, e.here ∙ last.3.pc, e.is_end, e.states);
         shown = sym (public_same last.0 e.last last.2 last.3) ∙ e.shown;
       }
+
+pub runs_go_forth : RunsGoForth
+runs_go_forth bytes hints loaded are hint image = forth bytes hints loaded are hint image
+
+pub runs_go_back : RunsGoBack
+runs_go_back bytes hints loaded are hint image = back bytes hints loaded are hint image
 
 pub runs_end_alike : RunsEndAlike
 runs_end_alike bytes loaded are image hints n code public_bytes hint =

@@ -4,10 +4,10 @@ use Rattle.elf_image.specs.Loaded.{Loaded, word_of}
 use Rattle.elf_image.specs.Image.{HasImage}
 use Rattle.rv_run.specs.Machine.{Machine, start}
 use Rattle.rv_run.specs.Step.{goes, ends, step_of}
-use Rattle.rv_run.specs.Run.{Ends}
+use Rattle.rv_run.specs.Run.{Goes, Ends}
 use Rattle.vm_isa.specs.declared.instr.VmInstr.{VmInstr}
 use Rattle.vm_isa.specs.Words.{IsBytes}
-use Rattle.vm_isa.specs.Blocks.{VmState, VmStep, VmEnds}
+use Rattle.vm_isa.specs.Blocks.{VmState, VmStep, VmGoes, VmEnds}
 use Rattle.vm_transpile.specs.Program.{program_of}
 use Rattle.vm_transpile.specs.Start.{vm_start}
 use Rattle.vm_transpile.specs.Same.{IsMachine, Same}
@@ -39,7 +39,7 @@ GoesBack loaded program = (m : Machine) (s t : VmState) → IsMachine m → Same
 
 -- a program ends where its row says so
 abbrev pub EndsByRow : Loaded → List VmInstr → Type 0
-EndsByRow loaded program = (m : Machine) (code : ℕ) → IsMachine m → (step_of loaded m ≡ ends code) ↔ HasEnd program m.pc code
+EndsByRow loaded program = (m : Machine) (code : ℕ) → (step_of loaded m ≡ ends code) ↔ HasEnd program m.pc code
 
 -- the steps of a program are those of the machine
 pub record StepsAlike (loaded : Loaded) (program : List VmInstr) : Type 0 where
@@ -71,6 +71,18 @@ StepsGoBack = (bytes : List ℕ) (loaded : Loaded) → HasImage bytes loaded →
 
 abbrev pub StepsEndByRows : Type 0
 StepsEndByRows = (bytes : List ℕ) (loaded : Loaded) → HasImage bytes loaded → EndsByRow loaded (program_of loaded)
+
+-- n steps lead to the same state on both, where text stands there
+abbrev pub RunsGoForth : Type 0
+RunsGoForth = (bytes hints : List ℕ) (loaded : Loaded) → IsBytes bytes → IsBytes hints → HasImage bytes loaded
+    → (n : ℕ) (m : Machine) → Goes loaded hints n m → HasText loaded m.pc
+    → (s : VmState) × VmGoes (program_of loaded) (vm_start loaded hints) n s × IsMachine m × Same m s
+
+-- and where a row does
+abbrev pub RunsGoBack : Type 0
+RunsGoBack = (bytes hints : List ℕ) (loaded : Loaded) → IsBytes bytes → IsBytes hints → HasImage bytes loaded
+    → (n : ℕ) (s : VmState) → VmGoes (program_of loaded) (vm_start loaded hints) n s → HasRow (program_of loaded) s.pc
+    → (m : Machine) × Goes loaded hints n m × IsMachine m × Same m s
 
 abbrev pub RunsEndAlike : Type 0
 RunsEndAlike = (bytes : List ℕ) (loaded : Loaded) → IsBytes bytes → HasImage bytes loaded → EndsAlike loaded (program_of loaded)
