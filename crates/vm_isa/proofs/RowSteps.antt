@@ -1,5 +1,5 @@
 -- The step of one row, by the old words of its accesses.
-use Rattle.std.proofs.Common.{◌≡◌, ℕ, ◌≤◌, ◌∷◌, true, false, List, length, map, take, drop, Some, refl, sym, ap, ◌∙◌, subst, arith}
+use Rattle.std.proofs.Common.{◌≡◌, ℕ, ◌≤◌, false, List, length, map, take, drop, Some, ap, ◌∙◌, subst}
 use Rattle.std.specs.Prelude.{Contains}
 use Rattle.vm_isa.specs.declared.instr.VmInstr.{VmInstr}
 use Rattle.vm_isa.specs.Means.{Accessed, Meaning, means_of, accessed_by, is_refused, new_at, next_of, places_of}
@@ -38,7 +38,7 @@ step_by_row program s t step =
       olds = olds;
       can = record { fits = m.fits; long = m.long; meets = subst (Meets s.blocks) same step.meets; enough = step.enough };
       next = step.next ∙ ap (λ (n : ℕ). record { pc = n; blocks = after_accesses s.blocks step.meaning.accesses; hints = drop (hints_used step.instr.op) s.hints }) next
-      ∙ ap (λ (xs : List Accessed). record { pc = next_of step.instr olds; blocks = after_accesses s.blocks xs; hints = drop (hints_used step.instr.op) s.hints }) same;
+          ∙ ap (λ (xs : List Accessed). record { pc = next_of step.instr olds; blocks = after_accesses s.blocks xs; hints = drop (hints_used step.instr.op) s.hints }) same;
     }
 
 pub row_steps : (program : List VmInstr) (i : VmInstr) (s t : VmState) → Contains program i → i.pc ≡ s.pc → By i s t → VmStep program s t

@@ -1,9 +1,8 @@
 -- The accesses of a SHA block: reads at many places, and then writes at places that differ.
-use Rattle.std.proofs.Common.{◌≡◌, ℕ, zero, suc, ◌+◌, ◌-◌, ◌*◌, ◌%◌, ◌^◌, ◌<◌, ◌≤◌, Bool, true, false, ◌&&◌, nat_eq, List, [], ◌∷◌, ◌++◌, length, map, take, drop, refl, sym, ap, ◌∙◌, subst, arith, if◌then◌else◌, length-drop, length-take-le}
+use Rattle.std.proofs.Common.{◌≡◌, ℕ, zero, suc, ◌+◌, ◌*◌, ◌<◌, ◌≤◌, Bool, true, false, ◌&&◌, nat_eq, List, [], ◌∷◌, ◌++◌, length, map, take, drop, refl, sym, ap, ◌∙◌, subst, arith, if◌then◌else◌, length-drop, length-take-le}
 use Rattle.std.specs.List.{AllByRecursion, range_with_len}
-use Rattle.std.proofs.Math.ListN.{length-append}
 use Rattle.std.proofs.lemmas.Bool.Decides.{nat_tests}
-use Rattle.std.proofs.lemmas.List.{take-append-drop, length-map}
+use Rattle.std.proofs.lemmas.List.{take-append-drop}
 use Rattle.vm_word.specs.Word.{word_of_limbs}
 use Rattle.vm_word.specs.Arithmetic.{word_sum}
 use Rattle.vm_isa.specs.declared.instr.VmInstr.{VmInstr}
@@ -125,9 +124,10 @@ sha_olds blocks X Y b c = X ∷ Y ∷ (map (look blocks) (memory_from 2 c 16) ++
 separate_range : (f : ℕ → Place) (a n : ℕ) → ((j k : ℕ) → a ≤ j → j < k → k < a + n → (f k).pointer ≡ (f j).pointer → ⊥) → Separate (map f (range_with_len a n))
 unfolding Separate Apart
 separate_range f a zero h = tt
-separate_range f a (suc n) h =
-    (all_range (λ q. q.pointer ≡ (f a).pointer → ⊥) f (a + 1) n (λ j low high. h a j (omega arith) (omega arith) (omega arith)),
-    separate_range f (a + 1) n (λ j k low less high. h j k (omega arith) less (omega arith)))
+separate_range f a (suc n) h = (
+  all_range (λ q. q.pointer ≡ (f a).pointer → ⊥) f (a + 1) n (λ j low high. h a j (omega arith) (omega arith) (omega arith)),
+  separate_range f (a + 1) n (λ j k low less high. h j k (omega arith) less (omega arith)),
+)
 
 state_separate : (b : ℕ) → Separate (memory_from 18 b 8)
 state_separate b = separate_range (λ j. memory (18 + j) (word_sum b (4 * j))) 0 8 (λ j k low less high same. omega (arith, same))
@@ -201,9 +201,10 @@ module _ (i : VmInstr) (s : VmState) (pl : (b c : ℕ) → places_by i b c ≡ s
     sha_blocks can =
         let p = parts X Y (map (look s.blocks) (memory_from 2 c 16) ++ map (look s.blocks) (memory_from 18 b 8)) can in
         let block = subst (λ (n : ℕ). AllByRecursion On (memory_from 2 n 16)) hc p.block_on in
-        let state = subst (λ (n : ℕ). AllByRecursion On (memory_from 18 n 8)) hb p.state_on in
-        (λ j low. range_all On (λ j. memory (2 + j) (word_sum c (4 * j))) 0 16 j block (omega arith) (omega arith),
-        λ j low. range_all On (λ j. memory (18 + j) (word_sum b (4 * j))) 0 8 j state (omega arith) (omega arith))
+        let state = subst (λ (n : ℕ). AllByRecursion On (memory_from 18 n 8)) hb p.state_on in (
+          λ j low. range_all On (λ j. memory (2 + j) (word_sum c (4 * j))) 0 16 j block (omega arith) (omega arith),
+          λ j low. range_all On (λ j. memory (18 + j) (word_sum b (4 * j))) 0 8 j state (omega arith) (omega arith),
+        )
 
     sha_are : places_of i (sha_olds s.blocks X Y b c) ≡ sha_places i b c
     unfolding word_at
@@ -225,8 +226,8 @@ module _ (i : VmInstr) (s : VmState) (pl : (b c : ℕ) → places_by i b c ≡ s
           fits = fits;
           long = sym (ap (λ (ps : List Place). length ps) sha_are);
           meets = subst (λ (ps : List Place). Meets s.blocks (accessed_by new ps olds)) (sym sha_are)
-          (read_meets s.blocks (access new (place 0 1 (4 * i.rd)) X) (access new (place 1 1 (4 * i.rs1)) Y ∷ more) (quiet olds (take 4 s.hints) X 0 (omega arith)) on_d hx
-          (read_meets s.blocks (access new (place 1 1 (4 * i.rs1)) Y) more (quiet olds (take 4 s.hints) Y 1 (omega arith)) on_s hy all));
+              (read_meets s.blocks (access new (place 0 1 (4 * i.rd)) X) (access new (place 1 1 (4 * i.rs1)) Y ∷ more) (quiet olds (take 4 s.hints) X 0 (omega arith)) on_d hx
+              (read_meets s.blocks (access new (place 1 1 (4 * i.rs1)) Y) more (quiet olds (take 4 s.hints) Y 1 (omega arith)) on_s hy all));
           enough = enough;
         }
 

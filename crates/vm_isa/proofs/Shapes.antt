@@ -4,7 +4,7 @@ use Rattle.std.proofs.Common.{◌≡◌, ℕ, ◌≤◌, Bool, true, false, List
 use Rattle.vm_word.specs.Word.{word_of_limbs}
 use Rattle.vm_isa.specs.declared.instr.VmInstr.{VmInstr}
 use Rattle.vm_isa.specs.declared.meaning.Place.{Place}
-use Rattle.vm_isa.specs.Means.{Accessed, accessed_by, is_refused, new_at, next_of, places_by, places_of, word_at}
+use Rattle.vm_isa.specs.Means.{Accessed, accessed_by, is_refused, new_at, places_by, places_of, word_at}
 use Rattle.vm_isa.specs.Blocks.{Blocks, VmState, Meets, after_accesses, hints_used, is_block, with_block}
 use Rattle.vm_isa.proofs.ReadsKept.{look, read_met, read_meets, after_read}
 use Rattle.vm_isa.proofs.RowSteps.{accesses_of, Can}
@@ -109,7 +109,7 @@ module _ (i : VmInstr) (s : VmState) (p : Place) (q : ℕ → Place) (pl : (b c 
         fits = fits;
         long = sym (ap (λ (ps : List Place). length ps) (places2 X Y b hb));
         meets = subst (λ (ps : List Place). Meets s.blocks (accessed_by new ps (X ∷ Y ∷ []))) (sym (places2 X Y b hb))
-        (read_meets s.blocks (access new p X) (access new (q b) Y ∷ []) (keep _ _ _) on_p hx (on_q, hy, tt));
+            (read_meets s.blocks (access new p X) (access new (q b) Y ∷ []) (keep _ _ _) on_p hx (on_q, hy, tt));
         enough = enough;
       }
 
@@ -177,8 +177,8 @@ module _ (i : VmInstr) (s : VmState) (p : Place) (q r : ℕ → Place) (pl : (b 
         fits = fits;
         long = sym (ap (λ (ps : List Place). length ps) (places3 X Y Z b hb));
         meets = subst (λ (ps : List Place). Meets s.blocks (accessed_by new ps (X ∷ Y ∷ Z ∷ []))) (sym (places3 X Y Z b hb))
-        (read_meets s.blocks (access new p X) (access new (q b) Y ∷ access new (r b) Z ∷ []) (keep_p _ _ _) on_p hx
-        (read_meets s.blocks (access new (q b) Y) (access new (r b) Z ∷ []) (keep_q _ _ _ _) on_q hy (on_r, hz, tt)));
+            (read_meets s.blocks (access new p X) (access new (q b) Y ∷ access new (r b) Z ∷ []) (keep_p _ _ _) on_p hx
+            (read_meets s.blocks (access new (q b) Y) (access new (r b) Z ∷ []) (keep_q _ _ _ _) on_q hy (on_r, hz, tt)));
         enough = enough;
       }
 

@@ -1,7 +1,5 @@
 -- What instructions make of words is a word.
-use Rattle.std.proofs.Common.{◌≡◌, ℕ, zero, suc, ◌+◌, ◌-◌, ◌*◌, ◌/◌, ◌%◌, ◌^◌, ◌<◌, ◌≤◌, ◌==◌, Bool, true, false, cond, nat_lt, not, List, [], ◌∷◌, ◌++◌, length, get_or, set, take, drop, refl, sym, ap, ◌∙◌, subst, arith, bit_and, bit_or, bit_xor}
-use Rattle.std.specs.Prelude.{nat_le, nat_eq, slice_index}
-use Rattle.std.specs.List.{AllByRecursion}
+use Rattle.std.proofs.Common.{◌≡◌, ℕ, ◌+◌, ◌-◌, ◌/◌, ◌%◌, ◌^◌, ◌<◌, ◌≤◌, ◌==◌, Bool, true, false, cond, nat_lt, refl, subst, arith}
 use Rattle.std.proofs.Math.Nat.{div-le_self, mod-le}
 use Rattle.std.proofs.lemmas.Bool.Decides.{nat_tests}
 use Rattle.std.proofs.lemmas.Nat.{or_lt, xor_lt, and_le_l, mul-le, shr_below}
@@ -11,7 +9,7 @@ use Rattle.rv_decode.specs.declared.instr.MulDivOp.{MulDivOp}
 use Rattle.rv_decode.specs.declared.instr.MulDivOp.TheVariants.{Mul, Mulh, Mulhsu, Mulhu, Div, Divu, Rem, Remu}
 use Rattle.rv_decode.specs.declared.instr.LoadKind.{LoadKind}
 use Rattle.rv_decode.specs.declared.instr.LoadKind.TheVariants.{Lb, Lh, Lw, Lbu, Lhu}
-use Rattle.vm_word.specs.Arithmetic.{is_negative, signed_less, shifted_right, shifted_right_signed, sign_extended, high_product, quotient, quotient_signed, remainder, remainder_signed, magnitude, negated_if}
+use Rattle.vm_word.specs.Arithmetic.{is_negative, signed_less, shifted_right, high_product, magnitude, negated_if}
 use Rattle.rv_run.specs.Memory.{number_at}
 use Rattle.rv_run.specs.Step.{alu, mul_div, extended, load_width, word_of_test}
 

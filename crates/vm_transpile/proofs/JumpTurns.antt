@@ -1,14 +1,11 @@
 -- The turns of branches and jumps.
-use Rattle.std.proofs.Common.{◌≡◌, ℕ, ◌+◌, ◌-◌, ◌*◌, ◌%◌, ◌^◌, ◌<◌, ◌≤◌, ◌==◌, Bool, true, false, cond, ◌&&◌, ◌||◌, not, nat_eq, nat_lt, None, Some, Option, if◌then◌else◌, length, List, [], ◌∷◌, take, refl, sym, ap, ◌∙◌, subst, arith, ⊎_elim}
-use Rattle.std.proofs.lemmas.Bool.{cases_lt}
+use Rattle.std.proofs.Common.{◌≡◌, ℕ, ◌-◌, ◌*◌, ◌%◌, ◌^◌, ◌<◌, ◌≤◌, ◌==◌, Bool, true, false, cond, not, nat_lt, None, if◌then◌else◌, length, List, [], ◌∷◌, take, refl, sym, ap, ◌∙◌, subst, arith}
 use Rattle.std.proofs.lemmas.Bool.Decides.{nat_tests}
 use Rattle.rv_decode.specs.declared.instr.Instr.TheVariants.{Branch, Jal, Jalr}
 use Rattle.rv_decode.specs.declared.instr.BranchKind.{BranchKind}
 use Rattle.rv_decode.specs.declared.instr.BranchKind.TheVariants.{Beq}
 use Rattle.vm_word.specs.Word.{limbs_of, word_of_limbs}
 use Rattle.vm_word.specs.Arithmetic.{word_sum}
-use Rattle.rv_run.specs.declared.outcome.Cause.{Cause}
-use Rattle.rv_run.specs.declared.outcome.Cause.TheVariants.{MisalignedTarget}
 use Rattle.rv_run.specs.Machine.{Machine}
 use Rattle.rv_run.specs.Step.{register, goes, goes_on, jumps, put, at_target, jalr_target}
 use Rattle.rv_run.specs.Step.{is_taken as is_taken_by}
@@ -19,10 +16,10 @@ use Rattle.vm_isa.specs.Blocks.{VmState, with_block, hints_used}
 use Rattle.vm_isa.proofs.ReadsKept.{with_block-same}
 use Rattle.vm_isa.proofs.RowSteps.{Can}
 use Rattle.vm_isa.proofs.Shapes.{forced0, can0, after0, forced1, can1, after1, forced2, can2, after2}
-use Rattle.vm_transpile.specs.Rows.{branch_form, branch_opcode, jal_row, load_form, within_program, target_of, bare, row_of}
+use Rattle.vm_transpile.specs.Rows.{branch_opcode, within_program, target_of, bare, row_of}
 use Rattle.vm_isa.specs.declared.opcode.TheConstants.{JAL, JALR}
 use Rattle.vm_transpile.specs.Same.{IsMachine, Same}
-use Rattle.vm_transpile.proofs.Turns.{Acts, Turns, turns, state_is, is_register, word_back}
+use Rattle.vm_transpile.proofs.Turns.{Turns, turns, state_is, is_register, word_back}
 use Rattle.vm_transpile.proofs.Operations.{none_used}
 use Rattle.vm_transpile.proofs.Updates.{same_put, same_stays, put_x0}
 use Rattle.vm_transpile.proofs.MemoryTurns.{tested, imm_word}
@@ -132,8 +129,8 @@ module _ (m : Machine) (s : VmState) (is : IsMachine m) (h : Same m s) where
       (record {
         forced = forced2 i s p q row.places row.keep0 X Y (register m rs1) hx back hy;
         leads = state_is _ _ _ _ _ _ next
-        (after2 i s p q row.places row.keep0 X Y (register m rs1) _ hx back ∙ ap (with_block s.blocks 1 (4 * rs2)) (row.keep1 _ _ _ ∙ sym hy) ∙ with_block-same s.blocks 1 (4 * rs2))
-        (none_used (hints_used i.op) s.hints used);
+            (after2 i s p q row.places row.keep0 X Y (register m rs1) _ hx back ∙ ap (with_block s.blocks 1 (4 * rs2)) (row.keep1 _ _ _ ∙ sym hy) ∙ with_block-same s.blocks 1 (4 * rs2))
+            (none_used (hints_used i.op) s.hints used);
       })
       (λ free low. (can, branched_low taken address low))
       (λ done even low. branched taken address even)
@@ -207,8 +204,8 @@ module _ (m : Machine) (s : VmState) (is : IsMachine m) (h : Same m s) where
       (record {
         forced = forced2 i s p q row.places row.keep X Z (register m rs1) hx back refl;
         leads = state_is _ _ _ _ _ _ next
-        (after2 i s p q row.places row.keep X Z (register m rs1) _ hx back ∙ ap (with_block s.blocks 1 (4 * rd)) (row.new _ _ _))
-        (none_used (hints_used i.op) s.hints used);
+            (after2 i s p q row.places row.keep X Z (register m rs1) _ hx back ∙ ap (with_block s.blocks 1 (4 * rd)) (row.new _ _ _))
+            (none_used (hints_used i.op) s.hints used);
       })
       (λ free low. (can2 i s p q row.places row.keep X Z (register m rs1) hx back refl (bad ∙ low_target to low) (is_register rs1 one) (is_register rd d) (omega arith), same))
       (λ done even low. (even_target to even, same))
@@ -228,8 +225,8 @@ module _ (m : Machine) (s : VmState) (is : IsMachine m) (h : Same m s) where
       (record {
         forced = forced1 i s p row.places X hx;
         leads = state_is _ _ _ _ _ _ next
-        (after1 i s p row.places X _ ∙ ap (with_block s.blocks 1 (4 * rs1)) (row.keep _ _ _ ∙ sym hx) ∙ with_block-same s.blocks 1 (4 * rs1))
-        (none_used (hints_used i.op) s.hints used);
+            (after1 i s p row.places X _ ∙ ap (with_block s.blocks 1 (4 * rs1)) (row.keep _ _ _ ∙ sym hx) ∙ with_block-same s.blocks 1 (4 * rs1))
+            (none_used (hints_used i.op) s.hints used);
       })
       (λ free low. (can1 i s p row.places X hx (bad ∙ low_target to low) (is_register rs1 one) (omega arith), same_stays m s to h))
       (λ done even low. (even_target to even, same_stays m s to h))

@@ -1,7 +1,6 @@
 -- A step keeps what a state of the machine always is.
-use Rattle.std.proofs.Common.{◌≡◌, ℕ, zero, suc, ◌+◌, ◌-◌, ◌*◌, ◌%◌, ◌^◌, ◌<◌, ◌≤◌, ◌==◌, Bool, true, false, cond, ◌&&◌, nat_lt, List, [], ◌∷◌, ◌++◌, length, length-append, length-take, length-drop, get_or, set, take, drop, None, Some, Option, refl, sym, ap, ◌∙◌, subst, arith}
+use Rattle.std.proofs.Common.{◌≡◌, ℕ, zero, suc, ◌+◌, ◌-◌, ◌%◌, ◌^◌, ◌<◌, ◌==◌, Bool, true, false, cond, ◌&&◌, nat_lt, List, [], ◌∷◌, ◌++◌, length, length-append, length-take, length-drop, get_or, set, take, drop, None, Some, Option, refl, sym, ap, ◌∙◌, subst, arith}
 use Rattle.std.specs.Prelude.{nat_le, nat_eq, slice_index, if◌then◌else◌}
-use Rattle.std.specs.List.{AllByRecursion}
 use Rattle.std.proofs.lemmas.Bool.Decides.{nat_tests}
 use Rattle.std.proofs.lemmas.List.{length-set, get_or-set_same, get_or-set_other}
 use Rattle.byteorder.specs.Endian.{little_bytes}
@@ -14,7 +13,7 @@ use Rattle.vm_word.specs.Arithmetic.{word_sum}
 use Rattle.rv_run.specs.declared.outcome.Cause.{Cause}
 use Rattle.rv_run.specs.Machine.{Machine}
 use Rattle.rv_run.specs.Memory.{number_at, with_bytes, with_words}
-use Rattle.rv_run.specs.Step.{Next, goes, register, jumps, put, store, store_words, use_hints, make_public, at_public, obstacle, performed, step_by, unless, store_width}
+use Rattle.rv_run.specs.Step.{Next, goes, register, jumps, put, make_public, obstacle, performed, step_by, unless, store_width}
 use Rattle.rv_run.specs.Step.{alu as alu_by, mul_div as mul_div_by, extended as extended_by}
 use Rattle.rv_run.specs.Step.{load_width, jalr_target, address_of, compressed, branch_taken}
 use Rattle.vm_isa.specs.Words.{IsBytes}
@@ -124,7 +123,7 @@ module _ (m : Machine) (is : IsMachine m) where
         bytes = is.bytes;
         public_count = length-append (take place m.public_bytes) (little_bytes 4 w ++ drop (place + 4) m.public_bytes) ∙ omega arith;
         public_bytes = all_append (take place m.public_bytes) (little_bytes 4 w ++ drop (place + 4) m.public_bytes) (all_take place m.public_bytes is.public_bytes)
-        (all_append (little_bytes 4 w) (drop (place + 4) m.public_bytes) (word_bytes w) (all_drop (place + 4) m.public_bytes is.public_bytes));
+            (all_append (little_bytes 4 w) (drop (place + 4) m.public_bytes) (word_bytes w) (all_drop (place + 4) m.public_bytes is.public_bytes));
         hints = is.hints;
       }
 

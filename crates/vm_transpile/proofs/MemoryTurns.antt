@@ -1,12 +1,9 @@
 -- The turns of loads and stores.
-use Rattle.std.proofs.Common.{◌≡◌, ℕ, ◌-◌, ◌*◌, ◌%◌, ◌^◌, ◌<◌, ◌≤◌, ◌==◌, Bool, true, false, cond, ◌&&◌, ◌||◌, not, nat_eq, nat_lt, None, Some, Option, if◌then◌else◌, length, List, [], ◌∷◌, refl, sym, ap, ◌∙◌, subst, arith}
+use Rattle.std.proofs.Common.{◌≡◌, ℕ, ◌-◌, ◌*◌, ◌%◌, ◌^◌, ◌<◌, ◌==◌, Bool, true, false, cond, ◌&&◌, ◌||◌, not, nat_eq, nat_lt, None, Some, Option, List, [], ◌∷◌, refl, sym, ap, ◌∙◌, subst, arith}
 use Rattle.std.proofs.lemmas.Bool.Decides.{nat_tests}
-use Rattle.byteorder.specs.Endian.{little_bytes}
-use Rattle.rv_decode.specs.declared.instr.Instr.TheVariants.{Load, Store}
+use Rattle.rv_decode.specs.declared.instr.Instr.TheVariants.{Load}
 use Rattle.rv_decode.specs.declared.instr.LoadKind.{LoadKind}
 use Rattle.rv_decode.specs.declared.instr.LoadKind.TheVariants.{Lb}
-use Rattle.rv_decode.specs.declared.instr.StoreKind.{StoreKind}
-use Rattle.rv_decode.specs.declared.instr.StoreKind.TheVariants.{Sb}
 use Rattle.vm_word.specs.Word.{limbs_of, word_of_limbs}
 use Rattle.vm_word.specs.Arithmetic.{word_sum}
 use Rattle.vm_word.proofs.WordLemmas.{word_of_limbs-limbs_of}
@@ -14,21 +11,20 @@ use Rattle.rv_run.specs.declared.outcome.Cause.{Cause}
 use Rattle.rv_run.specs.declared.outcome.Cause.TheVariants.{Misaligned, OutOfRange}
 use Rattle.rv_run.specs.Machine.{Machine}
 use Rattle.rv_run.specs.Memory.{number_at}
-use Rattle.rv_run.specs.Step.{register, goes, goes_on, put, store, at_address, load_width, store_width}
+use Rattle.rv_run.specs.Step.{register, goes, goes_on, put, at_address, load_width}
 use Rattle.rv_run.specs.Step.{extended as extended_by}
 use Rattle.vm_isa.specs.declared.instr.VmInstr.{VmInstr}
-use Rattle.vm_isa.specs.Results.{width_of, extended, number_in, with_low}
+use Rattle.vm_isa.specs.Results.{width_of, extended, number_in}
 use Rattle.vm_isa.specs.Means.{is_refused, bars_first, bars_second, imm_of, is_bad, new_at, next_of, place, places_by, word_at}
 use Rattle.vm_isa.specs.Blocks.{VmState, with_block, hints_used, is_block}
 use Rattle.vm_isa.proofs.ReadsKept.{with_block-same}
-use Rattle.vm_isa.proofs.RowSteps.{Can}
 use Rattle.vm_isa.proofs.Shapes.{forced2, can2, after2, forced3, can3, after3}
-use Rattle.vm_transpile.specs.Rows.{load_opcode, store_opcode, bare, row_of}
+use Rattle.vm_transpile.specs.Rows.{load_opcode, bare, row_of}
 use Rattle.vm_transpile.specs.Same.{IsMachine, Same, memory_block}
-use Rattle.vm_transpile.proofs.Turns.{Acts, Turns, turns, state_is, is_register, word_back}
+use Rattle.vm_transpile.proofs.Turns.{Turns, turns, state_is, is_register, word_back}
 use Rattle.vm_transpile.proofs.Operations.{none_used}
-use Rattle.vm_transpile.proofs.Updates.{same_put, same_stays, same_store, put_x0}
-use Rattle.vm_transpile.proofs.WordBytes.{stored_here, store_fits, loaded_here}
+use Rattle.vm_transpile.proofs.Updates.{same_put, same_stays, put_x0}
+use Rattle.vm_transpile.proofs.WordBytes.{loaded_here}
 
 -- ---- where an access can be
 
@@ -133,8 +129,8 @@ module _ (m : Machine) (s : VmState) (is : IsMachine m) (h : Same m s) where
       (record {
         forced = forced3 i s p q r loads.places loads.keep0 keep X Y Z (register m rs1) hx back refl refl;
         leads = state_is _ _ _ _ _ _ (loads.next _)
-        (after3 i s p q r loads.places loads.keep0 keep X Y Z (register m rs1) _ hx back refl ∙ ap (with_block s.blocks 1 (4 * rd)) (new _))
-        (none_used (hints_used i.op) s.hints used);
+            (after3 i s p q r loads.places loads.keep0 keep X Y Z (register m rs1) _ hx back refl ∙ ap (with_block s.blocks 1 (4 * rd)) (new _))
+            (none_used (hints_used i.op) s.hints used);
       })
       (λ free low.
       let good : is_bad (load_width kind) a ≡ false = free_fits (load_width kind) a free in
@@ -161,8 +157,8 @@ module _ (m : Machine) (s : VmState) (is : IsMachine m) (h : Same m s) where
       (record {
         forced = forced2 i s p q loads.places loads.keep0 X Y (register m rs1) hx back refl;
         leads = state_is _ _ _ _ _ _ (loads.next _)
-        (after2 i s p q loads.places loads.keep0 X Y (register m rs1) _ hx back ∙ ap (with_block s.blocks 2 (a - a % 4)) (loads.keep1 _ _ _) ∙ with_block-same s.blocks 2 (a - a % 4))
-        (none_used (hints_used i.op) s.hints used);
+            (after2 i s p q loads.places loads.keep0 X Y (register m rs1) _ hx back ∙ ap (with_block s.blocks 2 (a - a % 4)) (loads.keep1 _ _ _) ∙ with_block-same s.blocks 2 (a - a % 4))
+            (none_used (hints_used i.op) s.hints used);
       })
       (λ free low.
       let good : is_bad (load_width kind) a ≡ false = free_fits (load_width kind) a free in

@@ -1,6 +1,5 @@
 -- The turns of the register form, the immediate form, LUI and AUIPC, and of what does nothing.
-use Rattle.std.proofs.Common.{◌≡◌, ℕ, ◌*◌, ◌^◌, ◌<◌, ◌≤◌, ◌==◌, None, length, Bool, true, false, cond, List, [], ◌∷◌, refl, sym, ap, ◌∙◌, subst, arith}
-use Rattle.std.proofs.lemmas.Bool.Decides.{nat_tests}
+use Rattle.std.proofs.Common.{◌≡◌, ℕ, ◌^◌, ◌<◌, ◌≤◌, ◌==◌, None, length, Bool, true, false, cond, [], refl, sym, ap, ◌∙◌, subst, arith}
 use Rattle.rv_decode.specs.declared.instr.Instr.{Instr}
 use Rattle.rv_decode.specs.declared.instr.Instr.TheVariants.{Lui, Auipc, AluImm, Alu, MulDiv, Fence}
 use Rattle.rv_decode.specs.declared.instr.AluOp.{AluOp}
@@ -18,7 +17,7 @@ use Rattle.vm_isa.specs.declared.instr.VmInstr.{VmInstr}
 use Rattle.vm_isa.specs.declared.opcode.TheConstants.{LUI, AUIPC}
 use Rattle.vm_isa.specs.Results.{alu, mul_div}
 use Rattle.vm_isa.specs.Means.{is_refused, bars_first, bars_second, imm_of, new_at, next_of, places_by, word_at}
-use Rattle.vm_isa.specs.Blocks.{VmState, hints_used}
+use Rattle.vm_isa.specs.Blocks.{VmState}
 use Rattle.vm_isa.proofs.Shapes.{forced0, can0, after0}
 use Rattle.vm_transpile.specs.Rows.{alu_opcode, mul_div_opcode, bare, nop_row, row_of}
 use Rattle.vm_transpile.specs.Same.{IsMachine, Same}

@@ -1,29 +1,17 @@
 -- Instructions that make a register's word from those of others: register and immediate form, LUI, AUIPC.
-use Rattle.std.proofs.Common.{◌≡◌, ℕ, ◌*◌, ◌^◌, ◌<◌, ◌≤◌, ◌==◌, Bool, true, false, List, [], ◌∷◌, drop, length, refl, sym, ap, ◌∙◌, arith}
-use Rattle.rv_decode.specs.declared.instr.Instr.{Instr}
-use Rattle.rv_decode.specs.declared.instr.Instr.TheVariants.{Lui, Auipc, AluImm, Alu, MulDiv, Fence}
-use Rattle.rv_decode.specs.declared.instr.AluOp.{AluOp}
-use Rattle.rv_decode.specs.declared.instr.AluOp.TheVariants.{Add, Sub, Sll, Slt, Sltu, Xor, Srl, Sra, Or, And}
-use Rattle.rv_decode.specs.declared.instr.MulDivOp.{MulDivOp}
-use Rattle.rv_decode.specs.declared.instr.MulDivOp.TheVariants.{Mul}
-use Rattle.rv_decode.specs.Ranges.{IsOperandOf}
+use Rattle.std.proofs.Common.{◌≡◌, ℕ, ◌*◌, ◌<◌, ◌==◌, false, List, [], ◌∷◌, drop, refl, ap, ◌∙◌, arith}
 use Rattle.vm_word.specs.Word.{limbs_of, word_of_limbs}
 use Rattle.vm_word.specs.Arithmetic.{word_sum}
-use Rattle.vm_word.proofs.WordLemmas.{word_of_limbs-limbs_of}
 use Rattle.rv_run.specs.Machine.{Machine}
 use Rattle.rv_run.specs.Step.{register, goes_on, put}
-use Rattle.rv_run.specs.Step.{alu as alu_by, mul_div as mul_div_by}
 use Rattle.vm_isa.specs.declared.instr.VmInstr.{VmInstr}
-use Rattle.vm_isa.specs.declared.opcode.TheConstants.{LUI, AUIPC}
-use Rattle.vm_isa.specs.Results.{alu, mul_div}
-use Rattle.vm_isa.specs.Means.{is_refused, bars_first, bars_second, imm_of, new_at, next_of, place, places_by, word_at}
+use Rattle.vm_isa.specs.Means.{is_refused, new_at, next_of, place, places_by}
 use Rattle.vm_isa.specs.Blocks.{VmState, with_block, hints_used}
 use Rattle.vm_isa.proofs.RowSteps.{Can}
-use Rattle.vm_isa.proofs.Shapes.{forced0, can0, after0, forced1, can1, after1, forced2, can2, after2, forced3, can3, after3}
-use Rattle.vm_transpile.specs.Rows.{alu_opcode, mul_div_opcode, bare, nop_row}
+use Rattle.vm_isa.proofs.Shapes.{forced1, can1, after1, forced2, can2, after2, forced3, can3, after3}
 use Rattle.vm_transpile.specs.Same.{IsMachine, Same}
-use Rattle.vm_transpile.proofs.Turns.{Acts, Turns, turns, state_is, is_register, word_back}
-use Rattle.vm_transpile.proofs.Updates.{same_put, same_stays, put_x0}
+use Rattle.vm_transpile.proofs.Turns.{Acts, state_is, is_register, word_back}
+use Rattle.vm_transpile.proofs.Updates.{same_put}
 
 -- a word of two registers' words
 pub record Makes3 (i : VmInstr) (pc rd rs1 rs2 : ℕ) (f : ℕ → ℕ → ℕ) : Type 0 where
@@ -83,8 +71,8 @@ module _ (m : Machine) (s : VmState) (is : IsMachine m) (h : Same m s) where
         acts = record {
           forced = forced3 i s p q r makes.places makes.keep0 keep X Y Z (register m rs1) hx back hy refl;
           leads = state_is _ _ _ _ _ _ (makes.next _)
-          (after3 i s p q r makes.places makes.keep0 keep X Y Z (register m rs1) _ hx back hy ∙ ap (with_block s.blocks 1 (4 * rd)) (new _))
-          (none_used (hints_used i.op) s.hints used);
+              (after3 i s p q r makes.places makes.keep0 keep X Y Z (register m rs1) _ hx back hy ∙ ap (with_block s.blocks 1 (4 * rd)) (new _))
+              (none_used (hints_used i.op) s.hints used);
         };
       }
 
@@ -104,8 +92,8 @@ module _ (m : Machine) (s : VmState) (is : IsMachine m) (h : Same m s) where
         acts = record {
           forced = forced2 i s p q makes.places makes.keep X Z (register m rs1) hx back refl;
           leads = state_is _ _ _ _ _ _ (makes.next _)
-          (after2 i s p q makes.places makes.keep X Z (register m rs1) _ hx back ∙ ap (with_block s.blocks 1 (4 * rd)) (new _))
-          (none_used (hints_used i.op) s.hints used);
+              (after2 i s p q makes.places makes.keep X Z (register m rs1) _ hx back ∙ ap (with_block s.blocks 1 (4 * rd)) (new _))
+              (none_used (hints_used i.op) s.hints used);
         };
       }
 
@@ -120,8 +108,8 @@ module _ (m : Machine) (s : VmState) (is : IsMachine m) (h : Same m s) where
         acts = record {
           forced = forced1 i s p makes.places Z refl;
           leads = state_is _ _ _ _ _ _ (makes.next _)
-          (after1 i s p makes.places Z _ ∙ ap (with_block s.blocks 1 (4 * rd)) (makes.new Z _))
-          (none_used (hints_used i.op) s.hints used);
+              (after1 i s p makes.places Z _ ∙ ap (with_block s.blocks 1 (4 * rd)) (makes.new Z _))
+              (none_used (hints_used i.op) s.hints used);
         };
       }
 

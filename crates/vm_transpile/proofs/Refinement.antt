@@ -1,9 +1,8 @@
 -- One step on both machines.
 use Rattle.std.proofs.Common.{◌≡◌, ℕ, ◌%◌, ◌^◌, ◌<◌, ◌==◌, Bool, true, false, cond, List, None, Some, Option, refl, sym, ap, ◌∙◌, subst, arith}
-use Rattle.std.specs.Prelude.{IfSome, ◌↔◌, Contains, slice_index}
+use Rattle.std.specs.Prelude.{Contains, slice_index}
 use Rattle.elf_image.specs.Loaded.{Loaded, word_of}
 use Rattle.elf_image.specs.Image.{HasImage}
-use Rattle.elf_image.proofs.Members.{In, in_from_Contains}
 use Rattle.rv_decode.specs.declared.instr.Instr.{Instr}
 use Rattle.rv_decode.specs.declared.instr.Instr.TheVariants.{Lui, Auipc, Jal, Jalr, Branch, Load, Store, AluImm, Alu, MulDiv, Fence, Terminate, HintStore, Reveal, ShaBlock}
 use Rattle.rv_decode.specs.declared.instr.AluOp.{AluOp}
@@ -25,12 +24,12 @@ use Rattle.rv_run.specs.Machine.{Machine}
 use Rattle.rv_run.specs.Step.{Next, goes, ends, traps, obstacle, performed, step_by, step_at_instr, step_at_word, step_of, unless}
 use Rattle.vm_isa.specs.declared.instr.VmInstr.{VmInstr}
 use Rattle.vm_isa.specs.Means.{is_refused}
-use Rattle.vm_isa.specs.Blocks.{VmState, VmStep}
+use Rattle.vm_isa.specs.Blocks.{VmState}
 use Rattle.vm_isa.proofs.RowSteps.{By, step_by_row, row_steps}
 use Rattle.vm_transpile.specs.Rows.{alu_opcode, load_opcode, store_opcode, branch_opcode, mul_div_opcode, nop_row, terminate_row, row_of}
 use Rattle.vm_transpile.specs.Program.{row_at, program_of}
 use Rattle.vm_transpile.specs.Same.{IsMachine, Same}
-use Rattle.vm_transpile.specs.Refines.{HasText, HasRow, HasEnd, StateIsKept, StepsGoForth, StepsGoBack, StepsEndByRows}
+use Rattle.vm_transpile.specs.Refines.{HasText, StateIsKept, StepsGoForth, StepsGoBack, StepsEndByRows}
 use Rattle.vm_transpile.proofs.Texts.{row_at-decoded, row_at-pc, word_aligned, rows_of_text, text_has_rows}
 use Rattle.vm_transpile.proofs.Ranges.{word_low, fields_in_range}
 use Rattle.vm_transpile.proofs.Turns.{Turns}
@@ -219,17 +218,17 @@ end_row pc (Branch kind rs1 rs2 offset) e = absurd (branch_other kind e)
 end_row pc _ e = absurd (omega arith)
 
 pub ends_by_row : StepsEndByRows
-ends_by_row bytes loaded image m code is = (
+ends_by_row bytes loaded image m code = (
   λ step.
-  let at = stands loaded m (ends code) (ends_moves code) step in
-  let instr : at.0 ≡ Terminate code = ended_instr m at.0 code (end_by m (obstacle m at.0) (performed m at.0) code at.2) in
-  let row = row_stands bytes loaded m.pc (Terminate code) image (subst (Stands loaded m.pc) instr at.1) in
-  (terminate_row m.pc code, row.0, row.1, refl, refl),
+      let at = stands loaded m (ends code) (ends_moves code) step in
+      let instr : at.0 ≡ Terminate code = ended_instr m at.0 code (end_by m (obstacle m at.0) (performed m at.0) code at.2) in
+      let row = row_stands bytes loaded m.pc (Terminate code) image (subst (Stands loaded m.pc) instr at.1) in
+      (terminate_row m.pc code, row.0, row.1, refl, refl),
   λ (row, contains, here, op, states).
-  let at = row_here loaded row m.pc contains here in
-  let is_end = end_row m.pc at.0 (ap (λ (i : VmInstr). i.op) at.2 ∙ op) in
-  let same : is_end.0 ≡ code = ap (λ (j : Instr). slice_index (row_of m.pc j).imm 0) (sym is_end.1) ∙ ap (λ (i : VmInstr). slice_index i.imm 0) at.2 ∙ states in
-  step_is loaded m at.0 at.1 ∙ ap (step_by m) is_end.1 ∙ ap ends same,
+      let at = row_here loaded row m.pc contains here in
+      let is_end = end_row m.pc at.0 (ap (λ (i : VmInstr). i.op) at.2 ∙ op) in
+      let same : is_end.0 ≡ code = ap (λ (j : Instr). slice_index (row_of m.pc j).imm 0) (sym is_end.1) ∙ ap (λ (i : VmInstr). slice_index i.imm 0) at.2 ∙ states in
+      step_is loaded m at.0 at.1 ∙ ap (step_by m) is_end.1 ∙ ap ends same,
 )
 
 pub state_is_kept : StateIsKept

@@ -1,18 +1,17 @@
 -- Whole runs on both machines.
-use Rattle.std.proofs.Common.{◌≡◌, ℕ, zero, suc, ◌+◌, ◌*◌, ◌<◌, ◌≤◌, List, [], ◌∷◌, ◌++◌, length, take, drop, take-add, drop-drop, take_all, refl, sym, ap, ◌∙◌, subst, arith}
-use Rattle.std.specs.Prelude.{◌↔◌, slice_index}
+use Rattle.std.proofs.Common.{◌≡◌, ℕ, zero, suc, ◌+◌, ◌*◌, ◌<◌, List, ◌++◌, length, take, drop, take-add, drop-drop, take_all, refl, sym, ap, ◌∙◌, subst, arith}
 use Rattle.std.specs.List.{flat_map, range_with_len}
 use Rattle.elf_image.specs.Loaded.{Loaded}
 use Rattle.elf_image.specs.Image.{HasImage}
 use Rattle.rv_run.specs.Machine.{Machine, start}
-use Rattle.rv_run.specs.Step.{goes, step_of}
 use Rattle.rv_run.specs.Run.{Goes, Ends}
+use Rattle.vm_isa.specs.declared.instr.VmInstr.{VmInstr}
 use Rattle.vm_isa.specs.Words.{IsBytes}
-use Rattle.vm_isa.specs.Blocks.{Blocks, VmState, VmStep, VmGoes, VmEnds, public_bytes_of}
+use Rattle.vm_isa.specs.Blocks.{VmState, VmGoes, VmEnds, public_bytes_of}
 use Rattle.vm_transpile.specs.Program.{program_of}
 use Rattle.vm_transpile.specs.Start.{vm_start}
 use Rattle.vm_transpile.specs.Same.{IsMachine, Same}
-use Rattle.vm_transpile.specs.Refines.{HasText, HasRow, GoesForth, GoesBack, EndsByRow, EndsAlike, RunsEndAlike}
+use Rattle.vm_transpile.specs.Refines.{HasText, HasRow, StepsAlike, EndsAlike, RunsGoForth, RunsGoBack, RunsEndAlike}
 use Rattle.vm_transpile.proofs.Starts.{starts_are_same}
 use Rattle.vm_transpile.proofs.Refinement.{goes_forth, goes_back, ends_by_row, state_is_kept, went_text, ended_text}
 
@@ -55,7 +54,7 @@ module _ (bytes hints : List ℕ) (loaded : Loaded) (are : IsBytes bytes) (hint 
   ends_forth : (n code : ℕ) (public_bytes : List ℕ) → Ends loaded hints n code public_bytes → VmEnds (program_of loaded) (vm_start loaded hints) n code public_bytes
   ends_forth n code public_bytes e =
       let last = forth n e.last e.reached (ended_text loaded e.last code e.ended) in
-      let row = (ends_by_row bytes loaded image e.last code last.2).0 e.ended in
+      let row = (ends_by_row bytes loaded image e.last code).0 e.ended in
       record {
         last = last.0;
         reached = last.1;
@@ -73,10 +72,25 @@ module _ (bytes hints : List ℕ) (loaded : Loaded) (are : IsBytes bytes) (hint 
       record {
         last = last.0;
         reached = last.1;
-        ended = (ends_by_row bytes loaded image last.0 code last.2).1 (e.row, e.stands, e.here ∙ last.3.pc, e.is_end, e.states);
+        ended = (ends_by_row bytes loaded image last.0 code).1 (e.row, e.stands, e.here ∙ last.3.pc, e.is_end, e.states);
         shown = sym (public_same last.0 e.last last.2 last.3) ∙ e.shown;
       }
+
+pub runs_go_forth : RunsGoForth
+runs_go_forth bytes hints loaded are hint image = forth bytes hints loaded are hint image
+
+pub runs_go_back : RunsGoBack
+runs_go_back bytes hints loaded are hint image = back bytes hints loaded are hint image
 
 pub runs_end_alike : RunsEndAlike
 runs_end_alike bytes loaded are image hints n code public_bytes hint =
     (ends_forth bytes hints loaded are hint image n code public_bytes, ends_back bytes hints loaded are hint image n code public_bytes)
+
+-- the program of a file's image
+
+pub steps_alike : (loaded : Loaded) (program : List VmInstr) → program ≡ program_of loaded → (bytes : List ℕ) → HasImage bytes loaded → StepsAlike loaded program
+steps_alike loaded program same bytes image =
+    subst (StepsAlike loaded) (sym same) (record { forth = goes_forth bytes loaded image; back = goes_back bytes loaded image; ends_by_row = ends_by_row bytes loaded image })
+
+pub ends_alike : (loaded : Loaded) (program : List VmInstr) → program ≡ program_of loaded → (bytes : List ℕ) → IsBytes bytes → HasImage bytes loaded → EndsAlike loaded program
+ends_alike loaded program same bytes are image = subst (EndsAlike loaded) (sym same) (runs_end_alike bytes loaded are image)

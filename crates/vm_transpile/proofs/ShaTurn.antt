@@ -1,5 +1,5 @@
 -- The turn of a SHA block.
-use Rattle.std.proofs.Common.{◌≡◌, ℕ, zero, suc, ◌+◌, ◌-◌, ◌*◌, ◌%◌, ◌^◌, ◌<◌, ◌≤◌, ◌==◌, Bool, true, false, cond, ◌&&◌, ◌||◌, not, nat_eq, nat_lt, None, Some, Option, if◌then◌else◌, length, List, [], ◌∷◌, ◌++◌, map, take, drop, get_or, drop-cons, refl, sym, ap, ◌∙◌, subst, arith}
+use Rattle.std.proofs.Common.{◌≡◌, ℕ, zero, suc, ◌+◌, ◌-◌, ◌*◌, ◌%◌, ◌^◌, ◌<◌, ◌≤◌, ◌==◌, Bool, true, false, cond, ◌&&◌, ◌||◌, not, nat_eq, nat_lt, None, Some, Option, length, List, [], ◌∷◌, ◌++◌, map, take, drop, drop-cons, refl, sym, ap, ◌∙◌, subst, arith}
 use Rattle.std.specs.Prelude.{nat_le, slice_index}
 use Rattle.std.specs.List.{concat, range_with_len}
 use Rattle.std.proofs.Math.ListN.{drop_of_length-le}
@@ -16,14 +16,13 @@ use Rattle.rv_run.specs.Memory.{number_at, with_bytes, with_words}
 use Rattle.rv_run.specs.Step.{register, goes_on, jumps, store_words, at_block, words_at, bytes_at}
 use Rattle.rv_run.specs.Step.{compressed as compressed_by}
 use Rattle.vm_isa.specs.declared.instr.VmInstr.{VmInstr}
-use Rattle.vm_isa.specs.Means.{Accessed, accessed_by, compressed, is_high, is_refused, bars_first, bars_second, memory, memory_from, new_at, next_of, place, places_by, sha_places, word_at}
-use Rattle.vm_isa.specs.Blocks.{Blocks, VmState, with_block, after_accesses, hints_used, is_block}
+use Rattle.vm_isa.specs.Means.{accessed_by, compressed, is_high, is_refused, bars_first, bars_second, memory, memory_from, new_at, next_of, places_by, sha_places, word_at}
+use Rattle.vm_isa.specs.Blocks.{Blocks, VmState, with_block, after_accesses, is_block}
 use Rattle.vm_isa.proofs.ReadsKept.{look}
-use Rattle.vm_isa.proofs.RowSteps.{Can}
 use Rattle.vm_isa.proofs.ShaShape.{sha_olds, sha_forced, sha_blocks, sha_can, sha_after}
 use Rattle.vm_transpile.specs.Rows.{sha_row, row_of}
 use Rattle.vm_transpile.specs.Same.{IsMachine, Same, memory_block}
-use Rattle.vm_transpile.proofs.Turns.{Acts, Turns, turns, state_is, is_register, word_back}
+use Rattle.vm_transpile.proofs.Turns.{Turns, turns, state_is, is_register, word_back}
 use Rattle.vm_transpile.proofs.Updates.{same_stays, same_store}
 use Rattle.vm_transpile.proofs.StoreTurns.{whole_block}
 use Rattle.vm_transpile.proofs.WordBytes.{limbs-are}
@@ -269,11 +268,12 @@ module _ (m : Machine) (s : VmState) (is : IsMachine m) (h : Same m s) where
         leads = state_is _ _ _ _ _ _ (sha_next m.pc state block olds) (sha_after i s pl quiet X Y b c hx hb hy hc (take 4 s.hints)) refl;
       })
       (λ free low.
-      let at = free_at b c free in
-      (sha_can i s pl quiet X Y b c hx hb hy hc (bad ∙ low_both (is_high b) (is_high c) (not_high b (let l = at.low_state in omega arith)) (not_high c (let l = at.low_block in omega arith)))
-      (is_register state one) (is_register block two)
-      (λ j less. is_word c j at.even_block (let l = at.low_block in omega arith)) (λ j less. is_word b j at.even_state (let l = at.low_state in omega arith)) (let none : 0 ≤ length s.hints = omega arith in none),
-      sha_state state block at X Y (take 4 s.hints) zs refl))
+      let at = free_at b c free in (
+        sha_can i s pl quiet X Y b c hx hb hy hc (bad ∙ low_both (is_high b) (is_high c) (not_high b (let l = at.low_state in omega arith)) (not_high c (let l = at.low_block in omega arith)))
+            (is_register state one) (is_register block two)
+            (λ j less. is_word c j at.even_block (let l = at.low_block in omega arith)) (λ j less. is_word b j at.even_state (let l = at.low_state in omega arith)) (let none : 0 ≤ length s.hints = omega arith in none),
+        sha_state state block at X Y (take 4 s.hints) zs refl,
+      ))
       (λ can even low.
       let fits = both_low (is_high b) (is_high c) (sym bad ∙ can.fits) in
       let on = sha_blocks i s pl quiet X Y b c hx hb hy hc can in

@@ -1,17 +1,15 @@
 -- Both machines start in the same state.
-use Rattle.std.proofs.Common.{◌≡◌, ℕ, zero, suc, ◌+◌, ◌-◌, ◌*◌, ◌%◌, ◌^◌, ◌<◌, ◌≤◌, Bool, true, false, cond, List, [], ◌∷◌, All, length, take, drop, get_or, replicate, filter, inl, inr, refl, sym, ap, ◌∙◌, subst, arith}
+use Rattle.std.proofs.Common.{◌≡◌, ℕ, zero, suc, ◌+◌, ◌-◌, ◌*◌, ◌^◌, ◌<◌, ◌≤◌, Bool, true, false, cond, List, [], ◌∷◌, All, take, drop, replicate, filter, inl, inr, refl, sym, ap, ◌∙◌, subst, arith}
 use Rattle.std.specs.Prelude.{nat_lt, slice_index, slice_range}
-use Rattle.std.specs.List.{AllByRecursion}
 use Rattle.std.proofs.lemmas.List.Sorted.{All-permutation}
 use Rattle.std.proofs.lemmas.List.{length-replicate, drop-replicate, take-replicate}
-use Rattle.elf_image.specs.Loaded.{Load, Loaded, byte_in, byte_of, gives}
+use Rattle.elf_image.specs.Loaded.{Load, Loaded, byte_in, gives}
 use Rattle.elf_image.specs.Elf.{word, e_entry, load_headers}
 use Rattle.elf_image.specs.Image.{HasImage, in_file, load_of}
 use Rattle.elf_image.proofs.Members.{In, in_map, in_from_filter, All_in}
 use Rattle.vm_word.specs.Word.{limbs_of}
-use Rattle.rv_run.specs.Machine.{Machine, start}
+use Rattle.rv_run.specs.Machine.{start}
 use Rattle.vm_isa.specs.Words.{IsBytes}
-use Rattle.vm_isa.specs.Blocks.{VmState}
 use Rattle.vm_transpile.specs.Start.{vm_start}
 use Rattle.vm_transpile.specs.Same.{IsMachine, Same}
 use Rattle.vm_transpile.specs.Refines.{StartsAreSame}

@@ -1,6 +1,5 @@
 -- The turns of stores, hint stores and reveals.
-use Rattle.std.proofs.Common.{◌≡◌, ℕ, zero, suc, ◌+◌, ◌-◌, ◌*◌, ◌%◌, ◌^◌, ◌<◌, ◌≤◌, ◌==◌, Bool, true, false, cond, ◌&&◌, not, nat_eq, nat_lt, None, Some, Option, if◌then◌else◌, length, length-take, List, [], ◌∷◌, take, drop, refl, sym, ap, ◌∙◌, subst, arith, ⊎_elim}
-use Rattle.std.proofs.lemmas.Bool.{cases_lt}
+use Rattle.std.proofs.Common.{◌≡◌, ℕ, ◌+◌, ◌-◌, ◌*◌, ◌%◌, ◌^◌, ◌<◌, ◌≤◌, Bool, true, false, cond, ◌&&◌, nat_eq, nat_lt, None, Some, Option, length, length-take, List, [], ◌∷◌, take, drop, refl, sym, ap, ◌∙◌, subst, arith}
 use Rattle.std.proofs.lemmas.Bool.Decides.{nat_tests}
 use Rattle.byteorder.specs.Endian.{little_bytes}
 use Rattle.rv_decode.specs.declared.instr.Instr.TheVariants.{Store, HintStore, Reveal}
@@ -17,14 +16,13 @@ use Rattle.vm_isa.specs.declared.instr.VmInstr.{VmInstr}
 use Rattle.vm_isa.specs.Results.{width_of, with_low}
 use Rattle.vm_isa.specs.Means.{is_refused, bars_first, bars_second, imm_of, is_bad, new_at, next_of, place, places_by, word_at}
 use Rattle.vm_isa.specs.Blocks.{VmState, with_block, hints_used, is_block}
-use Rattle.vm_isa.proofs.RowSteps.{Can}
-use Rattle.vm_isa.proofs.Shapes.{forced2, can2, blocks2, after2, forced3, can3, blocks3, after3}
-use Rattle.vm_transpile.specs.Rows.{store_form, store_opcode, hint_row, reveal_row, bare, row_of}
+use Rattle.vm_isa.proofs.Shapes.{forced2, can2, after2, forced3, can3, blocks3, after3}
+use Rattle.vm_transpile.specs.Rows.{store_opcode, hint_row, reveal_row, bare, row_of}
 use Rattle.vm_transpile.specs.Same.{IsMachine, Same, memory_block}
-use Rattle.vm_transpile.proofs.Turns.{Acts, Turns, turns, state_is, is_register, word_back}
+use Rattle.vm_transpile.proofs.Turns.{Turns, turns, state_is, is_register, word_back}
 use Rattle.vm_transpile.proofs.Operations.{none_used}
 use Rattle.vm_transpile.proofs.Updates.{same_store, same_public}
-use Rattle.vm_transpile.proofs.WordBytes.{four, block-with, stored_here, store_fits}
+use Rattle.vm_transpile.proofs.WordBytes.{block-with, stored_here, store_fits}
 use Rattle.vm_transpile.proofs.MemoryTurns.{free_fits, fits_free, fits_aligned, fits_low, is_memory, tested, imm_word}
 
 -- ---- the rows
@@ -155,8 +153,8 @@ module _ (m : Machine) (s : VmState) (is : IsMachine m) (h : Same m s) where
       (record {
         forced = forced3 i s p q r row.places row.keep0 keep X Y Z (register m rs1) hx back hy refl;
         leads = state_is _ _ _ _ _ _ (row.next _)
-        (after3 i s p q r row.places row.keep0 keep X Y Z (register m rs1) _ hx back hy ∙ ap (with_block s.blocks 2 (a - a % 4)) (new _))
-        (none_used (hints_used i.op) s.hints used);
+            (after3 i s p q r row.places row.keep0 keep X Y Z (register m rs1) _ hx back hy ∙ ap (with_block s.blocks 2 (a - a % 4)) (new _))
+            (none_used (hints_used i.op) s.hints used);
       })
       (λ free low.
       let good : is_bad (store_width kind) a ≡ false = free_fits (store_width kind) a free in
@@ -198,17 +196,18 @@ module _ (m : Machine) (s : VmState) (is : IsMachine m) (h : Same m s) where
       (record {
         forced = forced2 i s p q row.places row.keep X Y (register m base) hx back refl;
         leads = state_is _ _ _ _ _ _ (row.next _)
-        (after2 i s p q row.places row.keep X Y (register m base) _ hx back ∙ ap (with_block s.blocks 2 a) (row.new _ _ _))
-        (ap (λ (n : ℕ). drop n s.hints) used);
+            (after2 i s p q row.places row.keep X Y (register m base) _ hx back ∙ ap (with_block s.blocks 2 a) (row.new _ _ _))
+            (ap (λ (n : ℕ). drop n s.hints) used);
       })
       (λ free low.
       let parts = hint_parts m (at_address 4 a) (nat_lt (length m.hints) 4) refl free in
       let good : is_bad 4 a ≡ false = free_fits 4 a parts.0 in
       let many : 4 ≤ length m.hints = parts.1 in
       let even : a % 4 ≡ 0 = fits_aligned 4 a good in
-      let here : a - a % 4 ≡ a = omega arith in
-      (can2 i s p q row.places row.keep X Y (register m base) hx back refl (bad ∙ good) (is_register base one) (subst (λ (n : ℕ). is_block 2 n ≡ true) here (is_memory a (fits_low 4 a good))) (omega arith),
-      hint_same a good parts.1))
+      let here : a - a % 4 ≡ a = omega arith in (
+        can2 i s p q row.places row.keep X Y (register m base) hx back refl (bad ∙ good) (is_register base one) (subst (λ (n : ℕ). is_block 2 n ≡ true) here (is_memory a (fits_low 4 a good))) (omega arith),
+        hint_same a good parts.1,
+      ))
       (λ can even low.
       let good : is_bad 4 a ≡ false = sym bad ∙ can.fits in
       let enough : hints_used i.op ≤ length s.hints = can.enough in
@@ -241,13 +240,14 @@ module _ (m : Machine) (s : VmState) (is : IsMachine m) (h : Same m s) where
       (record {
         forced = forced3 i s p q r row.places row.keep0 keep X Y Z (register m base) hx back hy refl;
         leads = state_is _ _ _ _ _ _ (row.next _)
-        (after3 i s p q r row.places row.keep0 keep X Y Z (register m base) _ hx back hy ∙ ap (with_block s.blocks 3 a) (row.new _ _ _ _))
-        (none_used (hints_used i.op) s.hints used);
+            (after3 i s p q r row.places row.keep0 keep X Y Z (register m base) _ hx back hy ∙ ap (with_block s.blocks 3 a) (row.new _ _ _ _))
+            (none_used (hints_used i.op) s.hints used);
       })
       (λ free low.
-      let parts = public_free a free in
-      (can3 i s p q r row.places row.keep0 keep X Y Z (register m base) hx back hy refl (bad ∙ good_low a parts.0 parts.1) (is_register base one) (is_register rs1 two) (block_from_public a parts.0 parts.1) (omega arith),
-      same parts.0 parts.1))
+      let parts = public_free a free in (
+        can3 i s p q r row.places row.keep0 keep X Y Z (register m base) hx back hy refl (bad ∙ good_low a parts.0 parts.1) (is_register base one) (is_register rs1 two) (block_from_public a parts.0 parts.1) (omega arith),
+        same parts.0 parts.1,
+      ))
       (λ can even low.
       let on = blocks3 i s p q r row.places row.keep0 keep X Y Z (register m base) back can in
       let parts = block_parts a on.2 in

@@ -1,5 +1,5 @@
 -- One instruction on the manual's machine, and its row on blocks.
-use Rattle.std.proofs.Common.{◌≡◌, ℕ, ◌*◌, ◌%◌, ◌^◌, ◌<◌, Bool, true, None, List, refl, sym, ap, ◌∙◌, subst, arith}
+use Rattle.std.proofs.Common.{◌≡◌, ℕ, ◌*◌, ◌%◌, ◌^◌, ◌<◌, true, None, List, sym, ap, ◌∙◌, subst, arith}
 use Rattle.std.proofs.lemmas.Bool.Decides.{nat_tests}
 use Rattle.rv_decode.specs.declared.instr.Instr.{Instr}
 use Rattle.vm_word.specs.Word.{limbs_of, word_of_limbs}
@@ -32,10 +32,10 @@ turns m instr i s next olds t performs acts forth back = record {
   performs = performs;
   forth = λ free low. let f = forth free low in (t, record { olds = olds; can = f.0; next = sym acts.leads }, f.1);
   back = λ u by even low.
-  let same : by.olds ≡ olds = acts.forced by.olds by.can in
-  let is : u ≡ t = by.next ∙ ap (followed_by i s) same ∙ acts.leads in
-  let b = back (subst (Can i s) same by.can) (subst (λ (x : VmState). x.pc % 4 ≡ 0) is even) (subst (λ (x : VmState). x.pc < 2 ^ 29) is low) in
-  (b.0, subst (λ (x : VmState). Same next x) (sym is) b.1);
+      let same : by.olds ≡ olds = acts.forced by.olds by.can in
+      let is : u ≡ t = by.next ∙ ap (followed_by i s) same ∙ acts.leads in
+      let b = back (subst (Can i s) same by.can) (subst (λ (x : VmState). x.pc % 4 ≡ 0) is even) (subst (λ (x : VmState). x.pc < 2 ^ 29) is low) in
+      (b.0, subst (λ (x : VmState). Same next x) (sym is) b.1);
 }
 
 -- a state by its parts

@@ -1,6 +1,6 @@
 -- The states stay the same when a word is put into a register, stored or made public on both sides.
-use Rattle.std.proofs.Common.{◌≡◌, ℕ, zero, suc, ◌+◌, ◌-◌, ◌*◌, ◌%◌, ◌^◌, ◌<◌, ◌≤◌, ◌==◌, Bool, true, false, cond, ◌&&◌, nat_eq, List, [], ◌∷◌, ◌++◌, length, take, drop, set, get_or, refl, sym, ap, ◌∙◌, subst, arith, length-take, length-drop, take-take, drop-drop, ⊎_elim, inl, inr}
-use Rattle.std.specs.Prelude.{if◌then◌else◌, slice_index}
+use Rattle.std.proofs.Common.{◌≡◌, ℕ, ◌+◌, ◌-◌, ◌*◌, ◌%◌, ◌<◌, ◌≤◌, ◌==◌, Bool, true, false, cond, nat_eq, List, ◌++◌, length, take, drop, set, get_or, refl, sym, ap, ◌∙◌, arith, length-take, length-drop, take-take, drop-drop, ⊎_elim}
+use Rattle.std.specs.Prelude.{slice_index}
 use Rattle.std.proofs.Math.Seq.{drop-append_seam, drop-append-add}
 use Rattle.std.proofs.lemmas.Bool.{cases_lt}
 use Rattle.std.proofs.lemmas.Bool.Decides.{nat_tests}
@@ -9,7 +9,7 @@ use Rattle.byteorder.specs.Endian.{little_bytes}
 use Rattle.vm_word.specs.Word.{limbs_of}
 use Rattle.rv_run.specs.Machine.{Machine}
 use Rattle.rv_run.specs.Memory.{with_bytes}
-use Rattle.rv_run.specs.Step.{register, jumps, put, store, make_public}
+use Rattle.rv_run.specs.Step.{jumps, put, store, make_public}
 use Rattle.vm_isa.specs.Blocks.{Blocks, VmState, with_block}
 use Rattle.vm_transpile.specs.Same.{IsMachine, Same, memory_block}
 use Rattle.vm_transpile.proofs.WordBytes.{limbs-are, stored_elsewhere}
@@ -38,8 +38,8 @@ same_put m s pc rd w word is h low some e =
     record {
       pc = refl;
       registers = λ r at.
-      put_by s.blocks m.registers rd r w word (nat_eq (4 * r) (4 * rd)) refl (omega arith) e (h.registers r at)
-      ∙ ap (λ (xs : List ℕ). limbs_of (slice_index xs r)) (sym (registers_put m rd w some));
+          put_by s.blocks m.registers rd r w word (nat_eq (4 * r) (4 * rd)) refl (omega arith) e (h.registers r at)
+          ∙ ap (λ (xs : List ℕ). limbs_of (slice_index xs r)) (sym (registers_put m rd w some));
       memory = h.memory;
       public_bytes = h.public_bytes;
       hints = h.hints;

@@ -1,6 +1,6 @@
 // What follows from the definitions. A law is the contract of a function without a body.
 ghost use Rattle.vm_transpile.specs.Laws.{RowsRise, RowsAreOfTheText, TheTextHasItsRows, ProgramIsOne, RowsAreInRange};
-ghost use Rattle.vm_transpile.specs.Refines.{StateIsKept, StartsAreSame, StepsGoForth, StepsGoBack, StepsEndByRows, RunsEndAlike};
+ghost use Rattle.vm_transpile.specs.Refines.{StateIsKept, StartsAreSame, StepsGoForth, StepsGoBack, StepsEndByRows, RunsGoForth, RunsGoBack, RunsEndAlike};
 
 /// The rows of a program stand in rising order of pc.
 pub fn rows_rise()
@@ -50,6 +50,16 @@ pub fn steps_go_back()
 /// The manual's machine ends exactly where the row at its pc is a TERMINATE with this exit code.
 pub fn steps_end_by_rows()
     ensures { StepsEndByRows }
+{}
+
+/// What n steps of the manual's machine lead to, with text at its pc, n steps on blocks lead to.
+pub fn runs_go_forth()
+    ensures { RunsGoForth }
+{}
+
+/// What n steps on blocks lead to, with a row at its pc, n steps of the manual's machine lead to.
+pub fn runs_go_back()
+    ensures { RunsGoBack }
 {}
 
 /// A run of the manual's machine ends exactly where the run on blocks does, after as many steps, with the same exit

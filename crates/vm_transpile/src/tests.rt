@@ -146,7 +146,8 @@ const HEADERS: ([u8; 24], [u8; 32]) = (
     ],
 );
 
-fn image_of(alloc: Global, base: u32, text: &[Line]) -> Result<Image, ImageError>
+/// The image of a file whose one load is these words at an address.
+pub fn image_of(alloc: Global, base: u32, text: &[u32]) -> Result<Image, ImageError>
     requires { length text.now < 2 ^ 10 }
 {
     let size = text.len() as u32 * 4;
@@ -156,7 +157,7 @@ fn image_of(alloc: Global, base: u32, text: &[Line]) -> Result<Image, ImageError
     for number in [base, base, size, size, 5, 4] {
         file.extend_from_slice(&number.to_le_bytes())?;
     }
-    for (word, _) in text {
+    for word in text {
         file.extend_from_slice(&word.to_le_bytes())?;
     }
     read_image(alloc, &file)
@@ -165,7 +166,12 @@ fn image_of(alloc: Global, base: u32, text: &[Line]) -> Result<Image, ImageError
 #[test]
 fn rows_of_the_texts(rt: HostRuntime) -> Result<(), Fail> {
     for (base, text) in [(0x1000, &TEXT[..]), (0x1fff_ffe0, &HIGH_TEXT[..])] {
-        let program = transpile(rt.alloc(), &image_of(rt.alloc(), base, text)?)?;
+        let mut words = Vec::new(rt.alloc());
+        for (word, _) in text {
+            words.push(*word)?;
+        }
+        assert!(rt; words.len() < 1 << 10);
+        let program = transpile(rt.alloc(), &image_of(rt.alloc(), base, words.as_slice())?)?;
         let mut pc: u32 = base;
         let mut place: u32 = 0;
         for (word, wanted) in text {

@@ -10,7 +10,7 @@ returns-in_err-image g c =
 pub returns-in-Ok : goal.returns-in-Ok
 returns-in-Ok g c =
     let elf = c.in_ok-image.ensures in
-    rw (c.in-Ok.ensures) (transpile_found _ _ _ _ _ elf.1 elf.2)
+    rw (c.in-Ok.ensures.rows) (transpile_found _ _ _ _ _ elf.1 elf.2)
 
 pub returns : goal.returns
 returns g c =

@@ -6,6 +6,7 @@ use Rattle.vm_isa.specs.declared.instr.VmInstr.{VmInstr}
 use Rattle.vm_transpile.specs.Order.{RisesFrom}
 use Rattle.vm_transpile.specs.Program.{row_at, program_of}
 use Rattle.vm_transpile.proofs.Texts.{row_more, program_rises}
+use Rattle.vm_transpile.proofs.RunsAlike.{steps_alike, ends_alike}
 use Rattle.vm_transpile.proofs.text.transpile.Goals as goal
 use Rattle.vm_transpile.proofs.text.transpile.Goals.{in-Some+in_ok-push, in_default}
 
@@ -24,3 +25,15 @@ new-requires c =
     let all : c.loop-place.rows.items ≡ program_of c.args.image.now =
     c.loop-place.invariant ∙ ap (filter_map row_at) (take_all c.loop-place.place (text_of c.args.image.now) (omega arith)) in
     subst (RisesFrom 0) (sym all) (program_rises c.args.image.now)
+
+pub returns-clause-steps : goal.returns-clause-steps
+returns-clause-steps c =
+    let all : c.loop-place.rows.items ≡ program_of c.args.image.now =
+    c.loop-place.invariant ∙ ap (filter_map row_at) (take_all c.loop-place.place (text_of c.args.image.now) (omega arith)) in
+    steps_alike c.args.image.now c.new.result (c.new.ensures ∙ all)
+
+pub returns-clause-runs : goal.returns-clause-runs
+returns-clause-runs c =
+    let all : c.loop-place.rows.items ≡ program_of c.args.image.now =
+    c.loop-place.invariant ∙ ap (filter_map row_at) (take_all c.loop-place.place (text_of c.args.image.now) (omega arith)) in
+    ends_alike c.args.image.now c.new.result (c.new.ensures ∙ all)
