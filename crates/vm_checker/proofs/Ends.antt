@@ -5,7 +5,7 @@ use Rattle.std.proofs.lemmas.Bool.{eqb-true, eq-eqb}
 use Rattle.vm_isa.specs.declared.instr.VmInstr.{VmInstr}
 use Rattle.vm_transpile.specs.Order.{RisesFrom}
 use Rattle.vm_transpile.proofs.Lookups.{found, finds}
-use Rattle.vm_checker.specs.Accepts.{Terminates}
+use Rattle.vm_isa.specs.Blocks.{Terminates}
 
 -- the row that is found is the one
 found_ends : (program : List VmInstr) (pc code : ℕ) (row : VmInstr) → RisesFrom 0 program → find (λ r. r.pc == pc) program ≡ Some row → Terminates program pc code → (row.op ≡ 41) × (slice_index row.imm 0 ≡ code)

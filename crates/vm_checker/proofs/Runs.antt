@@ -115,11 +115,7 @@ on_blocks sheet fits buses sound elf loaded v image table file accepts =
     record {
       last = at_pc start v.connector.pc_end;
       reached = accepted_goes sheet program loaded.entry v fits buses sound table ranges (rows_of_table sheet v.rows table.width file.rows) accepts start refl;
-      row = accepts.ends.row;
-      stands = accepts.ends.stands;
-      here = accepts.ends.here;
-      is_end = accepts.ends.is_end;
-      states = accepts.ends.states;
+      ended = accepts.ends;
       shown = none_public loaded;
     }
 

@@ -1,7 +1,8 @@
 -- When a file's claim is accepted over a program.
-use Rattle.std.specs.Prelude.{◌≡◌, ℕ, ◌*◌, ◌^◌, ◌<◌, Bool, true, nat_eq, nat_lt, List, [], ◌∷◌, ◌++◌, flat_map, length, count_by, slice_get, slice_index, Option, Some, None, Contains}
+use Rattle.std.specs.Prelude.{◌≡◌, ℕ, ◌*◌, ◌^◌, ◌<◌, Bool, true, nat_eq, nat_lt, List, [], ◌∷◌, ◌++◌, flat_map, length, count_by, slice_get, Option, Some, None}
 use Rattle.std.specs.List.{AllByRecursion, list_any}
 use Rattle.vm_isa.specs.declared.instr.VmInstr.{VmInstr}
+use Rattle.vm_isa.specs.Blocks.{Terminates}
 use Rattle.vm_isa.specs.Instr.{numbers_of}
 use Rattle.air_core.specs.declared.event.Event.{Event}
 use Rattle.air_core.specs.Sheet.{Sheet, RowHolds, row_events, received}
@@ -46,14 +47,6 @@ file_events sheet program v =
     connector_events (start_of v.connector) (end_of v.connector) ++ (flat_map (row_events sheet) v.rows ++ flat_map (entry_events program) v.entries)
 
 -- ---- what is accepted
-
--- at a pc of the program stands a TERMINATE with this exit code
-pub record Terminates (program : List VmInstr) (pc code : ℕ) : Type 0 where
-  pub row : VmInstr
-  pub stands : Contains program row
-  pub here : row.pc ≡ pc
-  pub is_end : row.op ≡ 41
-  pub states : slice_index row.imm 0 ≡ code
 
 pub record Accepts (sheet : Sheet) (program : List VmInstr) (entry : ℕ) (v : FileValue) : Type 0 where
   pub rows : AllByRecursion (RowHolds sheet) v.rows

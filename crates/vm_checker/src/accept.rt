@@ -4,8 +4,9 @@ ghost use Rattle.std.specs.List.{AllByRecursion};
 ghost use Rattle.air_core.specs.Balance.{BalancedOn};
 ghost use Rattle.air_core.specs.Sheet.{RowHolds};
 ghost use Rattle.table_format.specs.File.{IsFile, value_of};
+ghost use Rattle.vm_isa.specs.Blocks.{Terminates};
 ghost use Rattle.vm_transpile.specs.Order.{RisesFrom};
-ghost use Rattle.vm_checker.specs.Accepts.{Accepts, IsPathTable, Terminates, file_events, is_path_bus};
+ghost use Rattle.vm_checker.specs.Accepts.{Accepts, IsPathTable, file_events, is_path_bus};
 
 use crate::events::{hand_connector, hand_entries, hand_rows};
 use air_core::{Chip, OutOfMemory};

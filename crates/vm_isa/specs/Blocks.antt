@@ -61,13 +61,17 @@ VmGoes program start (suc n) t = (before : VmState) × VmGoes program start n be
 abbrev pub public_bytes_of : Blocks → List ℕ
 public_bytes_of blocks = flat_map (λ j. blocks 3 (4 * j)) (range_with_len 0 16)
 
+-- at a pc of the program stands a TERMINATE with this exit code
+pub record Terminates (program : List VmInstr) (pc code : ℕ) : Type 0 where
+  pub row : VmInstr
+  pub stands : Contains program row
+  pub here : row.pc ≡ pc
+  pub is_end : row.op ≡ 41
+  pub states : slice_index row.imm 0 ≡ code
+
 -- after n steps the program is at a TERMINATE with this exit code, and these bytes are public
 pub record VmEnds (program : List VmInstr) (start : VmState) (n code : ℕ) (public_bytes : List ℕ) : Type 0 where
   pub last : VmState
   pub reached : VmGoes program start n last
-  pub row : VmInstr
-  pub stands : Contains program row
-  pub here : row.pc ≡ last.pc
-  pub is_end : row.op ≡ 41
-  pub states : slice_index row.imm 0 ≡ code
+  pub ended : Terminates program last.pc code
   pub shown : public_bytes_of last.blocks ≡ public_bytes

@@ -223,11 +223,11 @@ ends_by_row bytes loaded image m code = (
       let at = stands loaded m (ends code) (ends_moves code) step in
       let instr : at.0 ≡ Terminate code = ended_instr m at.0 code (end_by m (obstacle m at.0) (performed m at.0) code at.2) in
       let row = row_stands bytes loaded m.pc (Terminate code) image (subst (Stands loaded m.pc) instr at.1) in
-      (terminate_row m.pc code, row.0, row.1, refl, refl),
-  λ (row, contains, here, op, states).
-      let at = row_here loaded row m.pc contains here in
-      let is_end = end_row m.pc at.0 (ap (λ (i : VmInstr). i.op) at.2 ∙ op) in
-      let same : is_end.0 ≡ code = ap (λ (j : Instr). slice_index (row_of m.pc j).imm 0) (sym is_end.1) ∙ ap (λ (i : VmInstr). slice_index i.imm 0) at.2 ∙ states in
+      record { row = terminate_row m.pc code; stands = row.0; here = row.1; is_end = refl; states = refl },
+  λ end.
+      let at = row_here loaded end.row m.pc end.stands end.here in
+      let is_end = end_row m.pc at.0 (ap (λ (i : VmInstr). i.op) at.2 ∙ end.is_end) in
+      let same : is_end.0 ≡ code = ap (λ (j : Instr). slice_index (row_of m.pc j).imm 0) (sym is_end.1) ∙ ap (λ (i : VmInstr). slice_index i.imm 0) at.2 ∙ end.states in
       step_is loaded m at.0 at.1 ∙ ap (step_by m) is_end.1 ∙ ap ends same,
 )
 

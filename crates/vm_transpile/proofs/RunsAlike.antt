@@ -58,21 +58,19 @@ module _ (bytes hints : List ℕ) (loaded : Loaded) (are : IsBytes bytes) (hint 
       record {
         last = last.0;
         reached = last.1;
-        row = row.0;
-        stands = row.1;
-        here = row.2 ∙ sym last.3.pc;
-        is_end = row.3;
-        states = row.4;
+        ended = record { row = row.row; stands = row.stands; here = row.here ∙ sym last.3.pc; is_end = row.is_end; states = row.states };
         shown = public_same e.last last.0 last.2 last.3 ∙ e.shown;
       }
 
   ends_back : (n code : ℕ) (public_bytes : List ℕ) → VmEnds (program_of loaded) (vm_start loaded hints) n code public_bytes → Ends loaded hints n code public_bytes
   ends_back n code public_bytes e =
-      let last = back n e.last e.reached (e.row, e.stands, e.here) in
+      let end = e.ended in
+      let last = back n e.last e.reached (end.row, end.stands, end.here) in
       record {
         last = last.0;
         reached = last.1;
-        ended = (ends_by_row bytes loaded image last.0 code).1 (e.row, e.stands, e.here ∙ last.3.pc, e.is_end, e.states);
+        ended = (ends_by_row bytes loaded image last.0 code).1
+            (record { row = end.row; stands = end.stands; here = end.here ∙ last.3.pc; is_end = end.is_end; states = end.states });
         shown = sym (public_same last.0 e.last last.2 last.3) ∙ e.shown;
       }
 

@@ -1,5 +1,5 @@
 -- The machine on blocks does what the manual's machine does, and no more.
-use Rattle.std.specs.Prelude.{◌≡◌, ℕ, ◌↔◌, List, Some, Contains, slice_index}
+use Rattle.std.specs.Prelude.{◌≡◌, ℕ, ◌↔◌, List, Some, Contains}
 use Rattle.elf_image.specs.Loaded.{Loaded, word_of}
 use Rattle.elf_image.specs.Image.{HasImage}
 use Rattle.rv_run.specs.Machine.{Machine, start}
@@ -7,7 +7,7 @@ use Rattle.rv_run.specs.Step.{goes, ends, step_of}
 use Rattle.rv_run.specs.Run.{Goes, Ends}
 use Rattle.vm_isa.specs.declared.instr.VmInstr.{VmInstr}
 use Rattle.vm_isa.specs.Words.{IsBytes}
-use Rattle.vm_isa.specs.Blocks.{VmState, VmStep, VmGoes, VmEnds}
+use Rattle.vm_isa.specs.Blocks.{VmState, VmStep, VmGoes, VmEnds, Terminates}
 use Rattle.vm_transpile.specs.Program.{program_of}
 use Rattle.vm_transpile.specs.Start.{vm_start}
 use Rattle.vm_transpile.specs.Same.{IsMachine, Same}
@@ -19,10 +19,6 @@ HasText loaded pc = (word : ℕ) × (word_of loaded pc ≡ Some word)
 -- a row of the program stands there
 abbrev pub HasRow : List VmInstr → ℕ → Type 0
 HasRow program pc = (row : VmInstr) × Contains program row × (row.pc ≡ pc)
-
--- the row at an address ends the program with this exit code
-abbrev pub HasEnd : List VmInstr → ℕ → ℕ → Type 0
-HasEnd program pc code = (row : VmInstr) × Contains program row × (row.pc ≡ pc) × (row.op ≡ 41) × (slice_index row.imm 0 ≡ code)
 
 -- ---- one step over a program
 
@@ -39,7 +35,7 @@ GoesBack loaded program = (m : Machine) (s t : VmState) → IsMachine m → Same
 
 -- a program ends where its row says so
 abbrev pub EndsByRow : Loaded → List VmInstr → Type 0
-EndsByRow loaded program = (m : Machine) (code : ℕ) → (step_of loaded m ≡ ends code) ↔ HasEnd program m.pc code
+EndsByRow loaded program = (m : Machine) (code : ℕ) → (step_of loaded m ≡ ends code) ↔ Terminates program m.pc code
 
 -- the steps of a program are those of the machine
 pub record StepsAlike (loaded : Loaded) (program : List VmInstr) : Type 0 where

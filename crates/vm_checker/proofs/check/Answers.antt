@@ -10,20 +10,20 @@ returns-in-Ok g c =
     let sheet = g.C.Chip.sheet chip in
     let loaded = c.args.image.now in
     let v = value_of c.in-Ok.file in
-    let len = c.len.ensures ∙ ap length c.in_ok-program.ensures in
+    let len = c.len.ensures ∙ ap length c.in_ok-program.ensures.rows in
     let file = rw len at c.in-Ok.ensures.good in
     let runs = accepted_is_run sheet (g.met.C.Chip.fits chip) (g.met.C.Chip.buses chip) (g.met.C.Chip.sound chip) loaded v c.requires.table file in
     record {
       took = c.read_file.ensures.took;
       judged = rw c.judge.ensures
           (judged_file sheet loaded (g.H.Host.state c.args.host.now) v c.in_ok-accepted-in-Ok.accepted runs file
-          c.in-Ok.ensures.whole (rw (c.in_ok-program.ensures, c.entry.ensures) at c.in_ok-accepted-in-Ok.ensures));
+          c.in-Ok.ensures.whole (rw (c.in_ok-program.ensures.rows, c.entry.ensures) at c.in_ok-accepted-in-Ok.ensures));
       fault = λ e. absurd (cc);
     }
 
 pub returns-in-Err-Refused : goal.returns-in-Err-Refused
 returns-in-Err-Refused g c =
-    let len = c.len.ensures ∙ ap length c.in_ok-program.ensures in
+    let len = c.len.ensures ∙ ap length c.in_ok-program.ensures.rows in
     record {
       took = c.read_file.ensures.took;
       judged = judged_no_file (g.C.Chip.sheet c.args.chip.now) c.args.image.now (g.H.Host.state c.args.host.now)
