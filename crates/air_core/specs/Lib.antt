@@ -16,3 +16,10 @@ pub mod PathLaws
 pub mod SoundLaws
 pub mod Nop
 pub mod NopLaws
+pub mod Orders
+pub mod System
+pub mod Join
+pub mod ExtensionLaws
+pub mod PartLemmas
+pub mod JoinLaws
+pub mod SingleLaws

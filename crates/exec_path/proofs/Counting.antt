@@ -6,7 +6,7 @@ use Rattle.std.specs.List.Sorted.{IsPermutation}
 use Rattle.std.proofs.lemmas.List.Recursion.{is_sum_by}
 use Rattle.std.proofs.lemmas.List.Sorted.{IsPermutation-refl, IsPermutation-sym, IsPermutation-cons, IsPermutation-trans, IsPermutation-middle, sum_by-IsPermutation}
 use Rattle.std.proofs.lemmas.Bool.{false_from_ne_true}
-use Rattle.exec_path.specs.Orders.{Member}
+use Rattle.air_core.specs.Orders.{Member}
 use Rattle.exec_path.proofs.Elements.{member_middle}
 use Rattle.exec_path.specs.Counts.{weight, once, count_of, IsEquality}
 

@@ -11,7 +11,7 @@ use Rattle.std.specs.List.{range_with_len}
 use Rattle.exec_path.specs.Counts.{once, count_of}
 use Rattle.std.proofs.lemmas.Bool.{leb-true, leb-false}
 use Rattle.std.proofs.lemmas.List.Sorted.{IsPermutation-refl, IsPermutation-sym, IsPermutation-cons, IsPermutation-trans, IsPermutation-middle}
-use Rattle.exec_path.specs.Orders.{Ascends, Rises, Member}
+use Rattle.air_core.specs.Orders.{Ascends, Rises, Member}
 use Rattle.exec_path.proofs.Elements.{all_weaker, all_permuted, all_at, all_from_members, all_members}
 
 module _ {X : Type 0} (key : X → ℕ) where

@@ -9,7 +9,7 @@ use Rattle.air_core.specs.declared.event.Side.TheVariants.{Send, Receive}
 use Rattle.air_core.specs.Balance.{total, IsEven}
 use Rattle.air_core.proofs.BalanceLemmas.{total-append}
 use Rattle.exec_path.specs.Counts.{weight, once, count_of, IsEquality}
-use Rattle.exec_path.specs.Orders.{Ascends, Rises, Pairwise}
+use Rattle.air_core.specs.Orders.{Ascends, Rises, Pairwise}
 use Rattle.exec_path.proofs.Elements.{all_weaker, all_permuted}
 use Rattle.exec_path.proofs.Counting.{weight-map, weight_from_counts, weight-IsPermutation, count_itself}
 use Rattle.exec_path.proofs.Ordering.{in_order, in_order-IsPermutation, in_order-Ascends, rising_permutation_unique}
