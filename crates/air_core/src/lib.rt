@@ -3,6 +3,7 @@
 
 mod both;
 mod chip;
+mod count;
 mod elements;
 mod event;
 mod extension;
@@ -19,10 +20,12 @@ mod single;
 mod sink;
 #[cfg(test)]
 mod tests;
+mod tables;
 mod tuple;
 
 pub use both::Both;
 pub use chip::Chip;
+pub use count::{CountEntry, CountList};
 pub use elements::element;
 pub use event::{Event, Side};
 pub use extension::Extension;
@@ -38,4 +41,5 @@ pub use reserved::Reserved;
 pub use single::Single;
 pub use sink::EventSink;
 pub use std::alloc::AllocError as OutOfMemory;
+pub use tables::Tables;
 pub use tuple::{MAX_TUPLE, Tuple};
