@@ -1,5 +1,7 @@
 //! Extensions made of others, and a check of rows that were put down by hand.
 
+ghost use Rattle.std.specs.Prelude.{◌≡◌};
+
 use super::*;
 use air_core::{Both, Event, Extension, NoChips, Nop, OutOfMemory, Reserved, Side, Single, Tuple};
 use std::alloc::Global;
@@ -30,7 +32,10 @@ fn three_deep(rt: HostRuntime) -> Result<(), Fail> {
         Reserved::new(0, u32::MAX, 24),
     );
     let tables = tables_of(rt.alloc(), &ext)?;
-    assert_eq!(rt; &tables[..], &[(7, u32::MAX), (3, 1), (0, u32::MAX)]);
+    assert_eq!(rt;
+        tables.as_slice(),
+        [(7, u32::MAX), (3, 1), (0, u32::MAX)].as_slice()
+    );
     assert_eq!(rt; owners_of(&ext), [Some(1), None]);
     assert_eq!(rt; ext.time_bits(), 24);
     assert!(rt; !ext.is_private(6));
@@ -88,7 +93,9 @@ const CASES: [Case; 5] = [
     },
 ];
 
-fn event(bus: u8, side: Side, tuple: Tuple) -> Event {
+fn event(bus: u8, side: Side, tuple: Tuple) -> Event
+    ensures { result.bus ≡ bus }
+{
     Event {
         bus,
         side,
