@@ -5,3 +5,5 @@ pub mod HintLemmas
 pub mod NopHint
 pub mod StepLaws
 pub mod LookupLemmas
+pub mod ExtensionLemmas
+pub mod RecordLemmas

@@ -111,7 +111,7 @@ pub record QuietZeros (sheet : Sheet) : Type 0 where
 abbrev pub ExtensionQuiet : System → Type 0
 ExtensionQuiet x = AllByRecursion (λ p. QuietZeros p.sheet) x.parts
 
--- Two extensions that can be joined. 
+-- Two extensions that can be joined.
 pub record Joinable (x y : System) : Type 0 where
   pub bits : x.time_bits ≡ y.time_bits
   pub opcodes : (op : ℕ) → is_owned x.parts op ≡ true → is_owned y.parts op ≡ true → ⊥

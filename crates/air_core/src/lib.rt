@@ -11,6 +11,7 @@ mod flags;
 mod hand;
 mod hint;
 mod holds;
+pub mod laws;
 mod list;
 mod no_chips;
 mod nop;
@@ -18,9 +19,9 @@ mod path;
 mod reserved;
 mod single;
 mod sink;
+mod tables;
 #[cfg(test)]
 mod tests;
-mod tables;
 mod tuple;
 
 pub use both::Both;

@@ -88,12 +88,7 @@ impl Extension for NoChips {
         None
     }
 
-    fn events<S: EventSink>(
-        &self,
-        _table: u32,
-        row: &[Fe],
-        sink: &mut S,
-    ) -> Result<(), OutOfMemory>
+    fn events<S: EventSink>(&self, _table: u32, row: &[Fe], sink: &mut S) -> Result<(), OutOfMemory>
         ensures ok { OnOk result (Handed S.holds S.room sink.old sink.new (row_events no_sheet row.now)) }
         ensures err { OnErr result (HandedSome S.holds S.room sink.old sink.new (row_events no_sheet row.now)) }
     {
@@ -109,6 +104,5 @@ impl Extension for NoChips {
     fn fill(&self, done: &StepRecord, _table: u32, place: u32, row: &mut [Fe])
         requires { length row.old ≡ no_sheet.width }
         ensures { row.new ≡ no_sheet.filled done.now place }
-    {
-    }
+    {}
 }
