@@ -7,3 +7,5 @@ pub mod StepLaws
 pub mod LookupLemmas
 pub mod ExtensionLemmas
 pub mod RecordLemmas
+pub mod ElementLemmas
+pub mod Counting

@@ -17,6 +17,7 @@ pub mod SoundLaws
 pub mod Nop
 pub mod NopLaws
 pub mod Orders
+pub mod Counts
 pub mod System
 pub mod Join
 pub mod ExtensionLaws

@@ -1,4 +1,3 @@
-pub mod Counts
 pub mod Path
 pub mod PathEvents
 pub mod Order
