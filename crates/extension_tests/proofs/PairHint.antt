@@ -1,15 +1,13 @@
 -- No row of the pair is a hint.
 use Rattle.std.specs.Prelude.{◌≡◌, ℕ, Bool, true, false, cond, nat_eq, List, [], ◌∷◌, ◌++◌, refl, slice_index}
-use Rattle.std.proofs.Common.{sym, ap, ◌∙◌, subst, ⊎_elim, zero, suc}
-use Rattle.vm_field.specs.Field.{modulus}
+use Rattle.std.proofs.Common.{sym, subst, ⊎_elim, zero, suc}
 use Rattle.air_core.specs.declared.event.Event.{Event}
-use Rattle.air_core.specs.First.{bit}
 use Rattle.air_core.specs.Hint.{NoHint}
 use Rattle.air_core.specs.ListLemmas.{below_at}
 use Rattle.air_core.specs.Path.{path_lines}
 use Rattle.air_core.specs.Sheet.{IsRow, RowHolds, counted, row_events, received}
 use Rattle.air_core.specs.System.{sheet_at}
-use Rattle.extension_tests.specs.Pair.{pair, step_sheet, answer_sheet, step_lines, step_numbers}
+use Rattle.extension_tests.specs.Pair.{pair, step_sheet, step_lines, step_numbers}
 use Rattle.extension_tests.specs.PairLaws.{flag_of, silent}
 
 valid_no_hint : (pc time x : ℕ) → NoHint (counted (step_lines pc time 1 x))

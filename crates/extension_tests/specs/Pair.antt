@@ -1,5 +1,5 @@
 -- Two tables and a private bus. The first steps by x and asks for x on bus 6; the second gives 4 alone.
-use Rattle.std.specs.Prelude.{ℕ, true, false, nat_eq, if◌then◌else◌, List, [], ◌∷◌, ◌++◌, slice_index}
+use Rattle.std.specs.Prelude.{ℕ, false, nat_eq, if◌then◌else◌, List, [], ◌∷◌, ◌++◌, slice_index}
 use Rattle.vm_field.specs.Field.{field_add, field_sub, field_mul}
 use Rattle.air_core.specs.declared.event.Event.{Event}
 use Rattle.air_core.specs.First.{bit}

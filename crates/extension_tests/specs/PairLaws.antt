@@ -1,5 +1,5 @@
 -- The laws of the pair, but for Sound.
-use Rattle.std.specs.Prelude.{◌≡◌, ◌≢◌, ℕ, ◌+◌, ◌^◌, ◌<◌, ◌≤◌, ◌⊎◌, Bool, true, false, ◌||◌, if◌then◌else◌, nat_eq, List, [], ◌∷◌, ◌++◌, length, refl, sum_by, slice_index}
+use Rattle.std.specs.Prelude.{◌≡◌, ◌≢◌, ℕ, ◌+◌, ◌<◌, ◌≤◌, ◌⊎◌, Bool, true, false, ◌||◌, if◌then◌else◌, nat_eq, List, [], ◌∷◌, ◌++◌, length, refl, sum_by, slice_index}
 use Rattle.std.proofs.Common.{sym, ap, ◌∙◌, subst, inl, inr, ⊎_elim, arith, lit<, lit≤, append-nil}
 use Rattle.std.specs.List.{AllByRecursion}
 use Rattle.std.proofs.lemmas.Bool.{eqb-true}
@@ -13,7 +13,6 @@ use Rattle.vm_isa.specs.Means.{Fillable}
 use Rattle.vm_isa.proofs.InstrLaws.{numbers_of-nop}
 use Rattle.vm_isa.proofs.MeansLaws.{nop_goes_on}
 use Rattle.air_core.specs.declared.event.Event.{Event}
-use Rattle.air_core.specs.declared.event.Side.TheVariants.{Send, Receive}
 use Rattle.air_core.specs.Balance.{BalancedOn}
 use Rattle.air_core.specs.First.{bit}
 use Rattle.air_core.specs.Laws.{Timed, Recorded}
@@ -21,9 +20,9 @@ use Rattle.air_core.specs.ListLemmas.{all_append, all_left, all_counted, all_cou
 use Rattle.air_core.specs.Lookups.{Good, GoodEvent}
 use Rattle.air_core.specs.Path.{path_lines}
 use Rattle.air_core.specs.PathLaws.{path_program, path_step, path_good, good_free, path_recorded, time_fits}
-use Rattle.air_core.specs.Sheet.{IsRow, counted, sent, received}
+use Rattle.air_core.specs.Sheet.{counted, sent, received}
 use Rattle.air_core.specs.Step.{on_bus, Touched, IsStep, TimedStep}
-use Rattle.air_core.specs.System.{GoodRow, tables_for}
+use Rattle.air_core.specs.System.{tables_for}
 use Rattle.air_core.specs.ExtensionLaws.{ExtensionFits, ExtensionBuses, ExtensionRows, ExtensionTimed, ExtensionComplete, ExtensionQuiet, OnOwnBus, SlotsFit, RecordRows, lookup_count}
 use Rattle.extension_tests.specs.Pair.{pair, step_sheet, answer_sheet, step_lines, step_numbers, answer_constraint}
 

@@ -1,6 +1,6 @@
 -- Law Sound of the pair: that a step is 4 long is known by the balance of bus 6 alone.
-use Rattle.std.specs.Prelude.{◌≡◌, ◌≢◌, ℕ, zero, suc, ◌+◌, ◌^◌, ◌<◌, ◌≤◌, ◌⊎◌, Bool, true, false, nat_eq, if◌then◌else◌, List, [], ◌∷◌, ◌++◌, flat_map, length, refl, slice_index, slice_index_or}
-use Rattle.std.proofs.Common.{sym, ap, ◌∙◌, subst, inl, inr, ⊎_elim, arith, lit<, append-nil}
+use Rattle.std.specs.Prelude.{◌≡◌, ◌≢◌, ℕ, zero, suc, ◌+◌, ◌^◌, ◌<◌, ◌≤◌, ◌⊎◌, true, false, nat_eq, List, [], ◌∷◌, ◌++◌, flat_map, length, refl, slice_index, slice_index_or}
+use Rattle.std.proofs.Common.{sym, ap, ◌∙◌, subst, inl, inr, ⊎_elim, arith, lit<}
 use Rattle.std.specs.List.{AllByRecursion}
 use Rattle.std.proofs.lemmas.List.Sums.{sum_by-append, sum_by-cons}
 use Rattle.vm_field.specs.Field.{modulus, field_add, field_sub}
@@ -9,20 +9,19 @@ use Rattle.vm_field.proofs.Ring.{field_sub_below}
 use Rattle.vm_isa.specs.declared.instr.VmInstr.{VmInstr}
 use Rattle.vm_isa.proofs.MeansLaws.{means_of-nop}
 use Rattle.air_core.specs.declared.event.Event.{Event}
-use Rattle.air_core.specs.declared.event.Side.{Side}
 use Rattle.air_core.specs.declared.event.Side.TheVariants.{Send, Receive}
 use Rattle.air_core.specs.Balance.{total, amount_at, is_at}
 use Rattle.air_core.specs.First.{bit}
-use Rattle.air_core.specs.ListLemmas.{all_append, all_counted, all_counted_some, all_weaker, below_at}
+use Rattle.air_core.specs.ListLemmas.{all_append, all_counted, all_counted_some, below_at}
 use Rattle.air_core.specs.Lookups.{Good}
 use Rattle.air_core.specs.Path.{path_lines}
-use Rattle.air_core.specs.Sheet.{counted, row_events, sent, received}
+use Rattle.air_core.specs.Sheet.{counted, row_events, sent}
 use Rattle.air_core.specs.Step.{SoundStep, IsMeaning}
-use Rattle.air_core.specs.System.{all_events, GoodRow, Whole}
+use Rattle.air_core.specs.System.{GoodRow}
 use Rattle.air_core.specs.ExtensionLaws.{ExtensionSound, SoundRow}
-use Rattle.air_core.proofs.BalanceLemmas.{IsThere, Member, member_of_total, test_of_there}
+use Rattle.air_core.proofs.BalanceLemmas.{member_of_total, test_of_there}
 use Rattle.extension_tests.specs.Pair.{pair, step_sheet, answer_sheet, step_lines, step_numbers, answer_constraint}
-use Rattle.extension_tests.specs.PairLaws.{Stepped, stepped, flag_of, silent, says, IsNop}
+use Rattle.extension_tests.specs.PairLaws.{stepped, flag_of, silent, says, IsNop}
 
 -- what is received on bus 6 is 4
 record GivesFour (e : Event) : Type 0 where

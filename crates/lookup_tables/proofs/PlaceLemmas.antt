@@ -6,7 +6,6 @@ use Rattle.std.proofs.Math.Nat.{pow-le-pow_right, pow-succ'}
 use Rattle.std.proofs.lemmas.Bool.{cases_lt, cases_eq, ne_eqb, eq-eqb}
 use Rattle.std.proofs.lemmas.Nat.{pow_pos}
 use Rattle.sha_words.specs.Sha256.{round_constant}
-use Rattle.air_core.specs.Lookups.{IsXorRow, IsRangeRow, IsConstantRow}
 use Rattle.lookup_tables.specs.Places.{XorAt, RangeAt, ConstantAt, IsRowAt, IsRowOf, rows_of}
 
 -- ---- answers that are exact

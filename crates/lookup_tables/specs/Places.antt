@@ -1,6 +1,6 @@
 -- Where a row of a lookup table stands: each row has one place, and each place below the table's
 -- number of rows has one row.
-use Rattle.std.specs.Prelude.{◌≡◌, ℕ, ◌+◌, ◌*◌, ◌-◌, ◌^◌, ◌≤◌, ◌<◌, nat_eq, if◌then◌else◌, List}
+use Rattle.std.specs.Prelude.{◌≡◌, ℕ, ◌+◌, ◌*◌, ◌-◌, ◌^◌, ◌≤◌, nat_eq, if◌then◌else◌, List}
 use Rattle.air_core.specs.Lookups.{IsXorRow, IsRangeRow, IsConstantRow}
 
 -- the row (x, y, x xor y) at place 256x + y

@@ -1,4 +1,4 @@
-use Rattle.std.proofs.Common.{◌≡◌, ℕ, List, Some, ◌+◌, ◌-◌, ◌*◌, ◌/◌, ◌%◌, ◌^◌, [], ◌∷◌, bit_xor, slice_index, refl, ap, arith}
+use Rattle.std.proofs.Common.{◌≡◌, ℕ, List, Some, ◌/◌, ◌%◌, [], ◌∷◌, ap}
 use Rattle.sha_words.specs.Sha256.{round_constant}
 use Rattle.lookup_tables.specs.Places.{ConstantAt}
 use Rattle.lookup_tables.proofs.PlaceLemmas.{some_is, constant_row, constant_one_row}

@@ -1,4 +1,4 @@
-use Rattle.std.proofs.Common.{◌≡◌, ℕ, List, Some, ◌+◌, ◌-◌, ◌*◌, ◌/◌, ◌%◌, ◌^◌, [], ◌∷◌, bit_xor, slice_index, refl, ap, arith}
+use Rattle.std.proofs.Common.{◌≡◌, ℕ, List, Some, ◌+◌, ◌-◌, ◌^◌, [], ◌∷◌, ap}
 use Rattle.lookup_tables.specs.Places.{RangeAt}
 use Rattle.lookup_tables.proofs.PlaceLemmas.{some_is, range_at_below, range_one_row}
 use Rattle.lookup_tables.proofs.range_at.Goals as goal

@@ -1,4 +1,4 @@
-use Rattle.std.proofs.Common.{◌≡◌, ℕ, List, Some, ◌+◌, ◌-◌, ◌*◌, ◌/◌, ◌%◌, ◌^◌, [], ◌∷◌, bit_xor, slice_index, refl, ap, arith}
+use Rattle.std.proofs.Common.{ℕ, List, Some, ◌/◌, ◌%◌, [], ◌∷◌, bit_xor, ap}
 use Rattle.lookup_tables.specs.Places.{XorAt}
 use Rattle.lookup_tables.proofs.PlaceLemmas.{some_is, xor_at_below, xor_one_row}
 use Rattle.lookup_tables.proofs.xor_at.Goals as goal

@@ -1,4 +1,4 @@
-use Rattle.std.proofs.Common.{◌≡◌, ℕ, List, Some, ◌+◌, ◌-◌, ◌*◌, ◌/◌, ◌%◌, ◌^◌, [], ◌∷◌, bit_xor, slice_index, refl, ap, arith}
+use Rattle.std.proofs.Common.{Some, ◌+◌, ◌*◌, slice_index, refl}
 use Rattle.lookup_tables.specs.Places.{XorAt}
 use Rattle.lookup_tables.proofs.PlaceLemmas.{some_is, xor_listed, xor_one_place}
 use Rattle.lookup_tables.proofs.xor_place.Goals as goal
