@@ -1,10 +1,10 @@
 -- What the laws of an extension say of one table, and of the table that owns an opcode.
-use Rattle.std.proofs.Common.{◌≡◌, ◌≢◌, ℕ, zero, suc, ◌+◌, ◌<◌, ◌≤◌, Bool, true, false, ◌||◌, List, [], ◌∷◌, length, Option, Some, None, slice_index_or, refl, sym, ap, ◌∙◌, arith, lit≤}
+use Rattle.std.proofs.Common.{◌≡◌, ◌≢◌, ℕ, zero, suc, ◌+◌, ◌<◌, ◌≤◌, Bool, true, false, ◌||◌, List, [], ◌∷◌, length, Option, Some, None, slice_index_or, refl, ap, arith, lit≤}
 use Rattle.std.specs.Prelude.{if◌then◌else◌}
 use Rattle.std.specs.List.{AllByRecursion}
 use Rattle.vm_isa.specs.declared.record.StepRecord.{StepRecord}
 use Rattle.air_core.specs.Sheet.{row_events}
-use Rattle.air_core.specs.System.{System, Part, no_part, part_at, sheet_at, rows_at, is_owned, owner_in, behind}
+use Rattle.air_core.specs.System.{System, Part, no_part, sheet_at, rows_at, is_owned, owner_in, behind}
 use Rattle.air_core.specs.PartLemmas.{owner_below}
 use Rattle.air_core.specs.ExtensionLaws.{ExtensionFits, ExtensionBuses, ExtensionRows, PartBuses, PartRows, OneOwner}
 

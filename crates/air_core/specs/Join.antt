@@ -1,7 +1,7 @@
 -- Extensions made of others, and those of no table or one.
 use Rattle.std.specs.Prelude.{ℕ, true, false, ◌||◌, if◌then◌else◌, [], ◌∷◌, ◌++◌, replicate}
 use Rattle.air_core.specs.Sheet.{Sheet}
-use Rattle.air_core.specs.System.{System, Part}
+use Rattle.air_core.specs.System.{System}
 
 -- the first's tables, and then the second's
 abbrev pub join : System → System → System

@@ -1,5 +1,5 @@
 -- The laws of two extensions joined, from those of each.
-use Rattle.std.specs.Prelude.{◌≡◌, ◌≢◌, ℕ, ◌+◌, ◌^◌, ◌<◌, ◌≤◌, ◌⊎◌, Bool, true, false, ◌||◌, List, [], ◌∷◌, ◌++◌, length, take, drop, Option, Some, None, refl, sum_by}
+use Rattle.std.specs.Prelude.{◌≡◌, ◌≢◌, ℕ, ◌+◌, ◌≤◌, ◌⊎◌, Bool, true, false, ◌||◌, List, [], ◌∷◌, ◌++◌, length, take, drop, refl, sum_by}
 use Rattle.std.proofs.Common.{sym, ap, ◌∙◌, subst, inl, inr, ⊎_elim, arith, append-nil, length-append, take-append-drop}
 use Rattle.std.specs.List.{AllByRecursion}
 use Rattle.std.proofs.lemmas.List.{length-take-le, length-drop}
@@ -9,15 +9,15 @@ use Rattle.vm_isa.specs.declared.record.StepRecord.{StepRecord}
 use Rattle.vm_isa.specs.Means.{Fillable}
 use Rattle.air_core.specs.declared.event.Event.{Event}
 use Rattle.air_core.specs.declared.event.Side.TheVariants.{Send, Receive}
-use Rattle.air_core.specs.Balance.{BalancedOn, total}
+use Rattle.air_core.specs.Balance.{BalancedOn}
 use Rattle.air_core.specs.ListLemmas.{all_append, all_weaker}
 use Rattle.air_core.specs.Laws.{Timed}
 use Rattle.air_core.specs.Orders.{Distinct}
 use Rattle.air_core.specs.Sheet.{Sheet, row_events}
 use Rattle.air_core.specs.System.{System, Part, is_owned, all_events, EachRow, GoodRow, Whole, tables_for, times_of}
-use Rattle.air_core.specs.ExtensionLaws.{ExtensionFits, ExtensionBuses, ExtensionRows, ExtensionTimed, ExtensionSound, ExtensionComplete, ExtensionQuiet, PartFits, PartBuses, PartRows, OnOwnBus, OneOwner, SoundRow, SaysRecord, RecordRows, QuietZeros, Joinable, width_of, lookup_count}
+use Rattle.air_core.specs.ExtensionLaws.{ExtensionFits, ExtensionBuses, ExtensionRows, ExtensionTimed, ExtensionSound, ExtensionComplete, ExtensionQuiet, PartFits, PartBuses, PartRows, OnOwnBus, OneOwner, SoundRow, SaysRecord, RecordRows, QuietZeros, Joinable, lookup_count}
 use Rattle.air_core.specs.Join.{join}
-use Rattle.air_core.specs.PartLemmas.{is_owned-append, each_left, each_right, each_both, events_both, distinct_left, distinct_right, times_of-append, each_filled, events_filled, each_unfilled, events_unfilled, total_elsewhere, OwnOnly, away, all_own, balanced_first, balanced_second}
+use Rattle.air_core.specs.PartLemmas.{is_owned-append, each_left, each_right, each_both, events_both, distinct_left, distinct_right, times_of-append, each_filled, events_filled, each_unfilled, events_unfilled, total_elsewhere, away, all_own, balanced_first, balanced_second}
 
 or_left : (a b : Bool) → a ≡ true → (a || b) ≡ true
 or_left true b h = refl

@@ -1,7 +1,7 @@
 -- Lists of tables, joined, and their rows and events.
-use Rattle.std.specs.Prelude.{◌≡◌, ◌≢◌, ℕ, ◌+◌, ◌<◌, ◌≤◌, Bool, true, false, if◌then◌else◌, nat_eq, List, [], ◌∷◌, ◌++◌, ◌||◌, flat_map, map, length, Option, Some, None, refl, sum_by}
-use Rattle.std.proofs.Common.{sym, ap, ◌∙◌, subst, arith, append_assoc, append-nil}
-use Rattle.std.specs.List.{AllByRecursion, range_with_len}
+use Rattle.std.specs.Prelude.{◌≡◌, ◌≢◌, ℕ, ◌+◌, ◌<◌, ◌≤◌, Bool, true, false, if◌then◌else◌, nat_eq, List, [], ◌∷◌, ◌++◌, ◌||◌, flat_map, length, Option, Some, None, refl}
+use Rattle.std.proofs.Common.{sym, ap, ◌∙◌, subst, arith, append_assoc}
+use Rattle.std.specs.List.{AllByRecursion}
 use Rattle.std.proofs.lemmas.Bool.{ne_eqb}
 use Rattle.std.proofs.lemmas.Grind.{flat_map-append}
 use Rattle.std.proofs.lemmas.List.Sums.{sum_by-append, sum_by-cons}
@@ -11,8 +11,8 @@ use Rattle.air_core.specs.declared.event.Side.{Side}
 use Rattle.air_core.specs.declared.event.Side.TheVariants.{Send, Receive}
 use Rattle.air_core.specs.Balance.{BalancedOn, amount_at, total}
 use Rattle.air_core.specs.First.{or_else}
-use Rattle.air_core.specs.ListLemmas.{all_append, all_left, all_right, all_weaker}
-use Rattle.air_core.specs.Orders.{Pairwise, Distinct}
+use Rattle.air_core.specs.ListLemmas.{all_append, all_left, all_weaker}
+use Rattle.air_core.specs.Orders.{Distinct}
 use Rattle.air_core.specs.Sheet.{Sheet, row_events}
 use Rattle.air_core.specs.System.{Part, is_owned, owner_in, behind, all_events, EachRow, rows_of, tables_for, time_if, times_of}
 use Rattle.air_core.specs.ExtensionLaws.{OnOwnBus, PartBuses}

@@ -1,19 +1,16 @@
 -- The laws of the extension of one table, from those of its chip; and of those without a chip.
-use Rattle.std.specs.Prelude.{◌≡◌, ◌≢◌, ℕ, zero, suc, ◌+◌, ◌^◌, ◌<◌, ◌≤◌, Bool, true, false, ◌||◌, if◌then◌else◌, nat_eq, List, [], ◌∷◌, ◌++◌, length, take, drop, replicate, refl, sum_by, map, flat_map}
-use Rattle.std.proofs.Common.{sym, ap, ◌∙◌, subst, inl, arith, lit<, lit≤, append-nil}
-use Rattle.std.specs.List.{AllByRecursion, range_with_len}
+use Rattle.std.specs.Prelude.{◌≡◌, ℕ, zero, suc, ◌^◌, ◌≤◌, Bool, true, false, ◌||◌, if◌then◌else◌, List, [], ◌∷◌, ◌++◌, length, take, drop, replicate, refl, sum_by}
+use Rattle.std.proofs.Common.{sym, ◌∙◌, subst, inl, arith, lit<, lit≤, append-nil}
+use Rattle.std.specs.List.{AllByRecursion}
 use Rattle.std.proofs.lemmas.List.Sums.{sum_by-cons}
 use Rattle.vm_isa.specs.declared.record.StepRecord.{StepRecord}
-use Rattle.vm_isa.specs.Means.{Fillable}
 use Rattle.air_core.specs.declared.event.Event.{Event}
-use Rattle.air_core.specs.declared.event.Side.TheVariants.{Send, Receive}
-use Rattle.air_core.specs.Balance.{BalancedOn}
 use Rattle.air_core.specs.Join.{single, no_chips, reserved, reserved_sheet}
 use Rattle.air_core.specs.Laws.{Fits, Buses, MayBus, Timed, Sound, Complete, Quiet, Filled, is_lookup}
 use Rattle.air_core.specs.ListLemmas.{all_weaker}
 use Rattle.air_core.specs.Sheet.{Sheet, AllZero, row_events}
-use Rattle.air_core.specs.System.{all_events, EachRow, GoodRow, Whole, rows_of, tables_for}
-use Rattle.air_core.specs.ExtensionLaws.{ExtensionFits, ExtensionBuses, ExtensionRows, ExtensionTimed, ExtensionSound, ExtensionComplete, ExtensionQuiet, OnOwnBus, SoundRow, SaysRecord, RecordRows, QuietZeros, lookup_count}
+use Rattle.air_core.specs.System.{GoodRow, tables_for}
+use Rattle.air_core.specs.ExtensionLaws.{ExtensionFits, ExtensionBuses, ExtensionRows, ExtensionTimed, ExtensionSound, ExtensionComplete, ExtensionQuiet, OnOwnBus, SoundRow, RecordRows, lookup_count}
 
 -- ---- one table
 

@@ -1,7 +1,5 @@
-use Rattle.std.proofs.Common.{Some, None, sym, ◌∙◌, ap, refl}
-use Rattle.std.specs.Prelude.{Option}
-use Rattle.air_core.specs.First.{or_else}
-use Rattle.air_core.specs.System.{behind, owner_in}
+use Rattle.std.proofs.Common.{Some, None, sym, ◌∙◌, refl}
+use Rattle.air_core.specs.System.{owner_in}
 use Rattle.air_core.specs.PartLemmas.{owner_joined}
 use Rattle.air_core.proofs.both.BothExtension.owner.Goals as goal
 
