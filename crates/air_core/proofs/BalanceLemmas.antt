@@ -1,6 +1,9 @@
 -- Sums of counts at one side, bus and tuple.
-use Rattle.std.proofs.Common.{◌≡◌, ℕ, suc, ◌+◌, ◌<◌, ◌≤◌, true, false, ◌&&◌, nat_eq, List, [], ◌∷◌, ◌++◌, Contains, refl, sym, arith, ⊎_elim}
-use Rattle.std.specs.Prelude.{IsPermutation}
+use Rattle.std.proofs.Common.{◌≡◌, ℕ, suc, ◌+◌, ◌<◌, ◌≤◌, Bool, true, false, cond, ◌&&◌, nat_eq, List, [], ◌∷◌, ◌++◌, Contains, refl, sym, arith, ⊎_elim}
+use Rattle.std.specs.Prelude.{IsPermutation, flat_map}
+use Rattle.std.specs.List.{AllByRecursion}
+use Rattle.air_core.specs.ListLemmas.{all_weaker}
+use Rattle.air_core.specs.Sheet.{counted, if_counted}
 use Rattle.std.specs.Cmp.Lexicographic.{pointwise, same_text}
 use Rattle.std.proofs.lemmas.Bool.{and_parts, eqb-true, eq-eqb, cases_Bool, cases_lt}
 use Rattle.std.proofs.lemmas.List.Sums.{sum_by-append, sum_by-cons}
@@ -92,3 +95,29 @@ member_of_total side bus tuple (e ∷ es) h =
     let nothing : amount_at side bus tuple e ≡ 0 = rw other refl in
     member_cons side bus tuple e es (member_of_total side bus tuple es (omega (arith, h, total-cons side bus tuple e es, nothing))))
     (cases_Bool (is_at side bus tuple e))
+
+-- ---- events that are counted, and rows among rows
+
+amount_none : (there : Bool) (count : ℕ) → count ≡ 0 → 0 ≡ cond there count 0
+amount_none true count zero = sym zero
+amount_none false count zero = refl
+
+total_if : (side : Side) (bus : ℕ) (tuple : List ℕ) (e : Event) (none : Bool) → nat_eq e.count 0 ≡ none → total side bus tuple (cond none [] (e ∷ [])) ≡ amount_at side bus tuple e
+total_if side bus tuple e true z = amount_none (is_at side bus tuple e) e.count (eqb-true e.count 0 z)
+total_if side bus tuple e false z = omega (arith, total-cons side bus tuple e [])
+
+-- an event of count 0 adds nothing, so sums of what is said are sums of all lines
+pub total-counted : (side : Side) (bus : ℕ) (tuple : List ℕ) (lines : List Event) → total side bus tuple (counted lines) ≡ total side bus tuple lines
+total-counted side bus tuple [] = refl
+total-counted side bus tuple (e ∷ lines) =
+    omega (arith, total-append side bus tuple (if_counted e) (counted lines), total_if side bus tuple e (nat_eq e.count 0) refl, total-cons side bus tuple e lines, total-counted side bus tuple lines)
+
+-- the sum of a row is at most the sum of all rows
+pub total_part : (side : Side) (bus : ℕ) (tuple : List ℕ) (f : List ℕ → List Event) (rows : List (List ℕ)) → AllByRecursion (λ row. total side bus tuple (f row) ≤ total side bus tuple (flat_map f rows)) rows
+total_part side bus tuple f [] = tt
+total_part side bus tuple f (row ∷ rows) =
+    let whole = total-append side bus tuple (f row) (flat_map f rows) in (
+      omega (arith, whole),
+      all_weaker (λ r. total side bus tuple (f r) ≤ total side bus tuple (flat_map f rows)) (λ r. total side bus tuple (f r) ≤ total side bus tuple (flat_map f (row ∷ rows)))
+          (λ r le. omega (arith, le, whole)) rows (total_part side bus tuple f rows),
+    )

@@ -5,3 +5,7 @@ pub mod HintLemmas
 pub mod NopHint
 pub mod StepLaws
 pub mod LookupLemmas
+pub mod ExtensionLemmas
+pub mod RecordLemmas
+pub mod ElementLemmas
+pub mod Counting

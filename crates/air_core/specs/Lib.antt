@@ -16,3 +16,12 @@ pub mod PathLaws
 pub mod SoundLaws
 pub mod Nop
 pub mod NopLaws
+pub mod Orders
+pub mod Counts
+pub mod System
+pub mod Join
+pub mod ExtensionLaws
+pub mod PartLemmas
+pub mod JoinLaws
+pub mod SingleLaws
+pub mod Contents

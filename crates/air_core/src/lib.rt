@@ -1,31 +1,46 @@
 //! Tables, their rows and what the rows say.
 #![tactic(auto)]
 
+mod both;
 mod chip;
+mod count;
 mod elements;
 mod event;
+mod extension;
 mod flags;
 mod hand;
 mod hint;
 mod holds;
+pub mod laws;
 mod list;
+mod no_chips;
 mod nop;
 mod path;
+mod reserved;
+mod single;
 mod sink;
+mod tables;
 #[cfg(test)]
 mod tests;
 mod tuple;
 
+pub use both::Both;
 pub use chip::Chip;
+pub use count::{CountEntry, CountList};
 pub use elements::element;
 pub use event::{Event, Side};
+pub use extension::Extension;
 pub use flags::{flag_sum, flags_broken, opcode};
 pub use hand::{hand_both, hand_counted, receive, send};
 pub use hint::HintWord;
 pub use holds::{bit, bits_broken, first, first_nonzero, gated_difference};
 pub use list::EventList;
+pub use no_chips::NoChips;
 pub use nop::{Nop, NopAt};
 pub use path::path_events;
+pub use reserved::Reserved;
+pub use single::Single;
 pub use sink::EventSink;
 pub use std::alloc::AllocError as OutOfMemory;
+pub use tables::Tables;
 pub use tuple::{MAX_TUPLE, Tuple};

@@ -159,3 +159,54 @@ fn tuples_in_order(rt: HostRuntime) -> Result<(), Fail> {
     }
     Ok(())
 }
+
+#[test]
+fn rows_of_a_reserved_table(rt: HostRuntime) -> Result<(), Fail> {
+    let ext = Reserved::new(3, 1, 24);
+    assert_eq!(rt; (ext.tables(), ext.width(0), ext.slots(0)), (1, 3, 1));
+    assert_eq!(rt; ext.first_broken(0, &[Fe::ZERO; 3]), None);
+    assert_eq!(rt; ext.first_broken(0, &[Fe::ONE; 3]), Some(0));
+    assert_eq!(rt;
+        ext.first_broken(0, &[Fe::ZERO, Fe::ZERO, Fe::ONE]),
+        Some(2)
+    );
+    let mut list = EventList::new(rt.alloc());
+    ext.events(0, &[Fe::ONE; 3], &mut list)?;
+    assert_eq!(rt; list.as_slice().len(), 0);
+    Ok(())
+}
+
+#[test]
+fn the_no_operation_as_an_extension(rt: HostRuntime) -> Result<(), Fail> {
+    let ext = Single::new(Nop::new());
+    assert_eq!(rt; (ext.tables(), ext.width(0), ext.slots(0)), (1, 3, 1));
+    assert_eq!(rt; [ext.owner(38), ext.owner(39)], [None, Some(0)]);
+    let step = [Fe::of_u16(4096), Fe::ONE, Fe::ONE];
+    assert_eq!(rt; ext.first_broken(0, &step), None);
+    let mut list = EventList::new(rt.alloc());
+    ext.events(0, &step, &mut list)?;
+    assert_eq!(rt; list.as_slice().len(), 3);
+    Ok(())
+}
+
+#[test]
+fn rows_and_counts_in_order(rt: HostRuntime) -> Result<(), Fail> {
+    let mut tables = Tables::new(rt.alloc(), &[2, 0])?;
+    assert_eq!(rt; (tables.tables(), tables.height(0)), (2, 0));
+    let first = [Fe::ONE, Fe::ZERO];
+    let second = [Fe::ZERO, Fe::ONE];
+    tables.push_row(0, &first)?;
+    tables.push_row(1, &[])?;
+    tables.push_row(0, &second)?;
+    assert_eq!(rt; (tables.height(0), tables.height(1)), (2, 1));
+    assert!(rt; tables.row(0, 1) == Some(second.as_slice()));
+    assert!(rt; tables.row(0, 2).is_none() && tables.row(2, 0).is_none());
+    let entry = CountEntry {
+        place: 12,
+        count: 3,
+    };
+    tables.push_count(CountList::Range, entry)?;
+    assert_eq!(rt; tables.counts(CountList::Range), [entry].as_slice());
+    assert_eq!(rt; tables.counts(CountList::Xor).len(), 0);
+    Ok(())
+}

@@ -1,5 +1,3 @@
-pub mod Elements
-pub mod Counting
 pub mod Ordering
 pub mod Totals
 pub mod PathLemmas

@@ -8,8 +8,8 @@ use Rattle.std.proofs.lemmas.Bool.{cases_lt, le-ltb, ne_eqb}
 use Rattle.std.proofs.lemmas.List.{get_or-map, length-map}
 use Rattle.std.proofs.lemmas.List.FromFn.{fill_by_all, get_or-range_with_len, length-range_with_len}
 use Rattle.std.proofs.lemmas.List.Sorted.{IsNonDecreasingBy-from_sort, IsNonDecreasingBy-from_all_adjacent, ties_still_rise, IsPermutation-map, All-permutation}
-use Rattle.exec_path.specs.Counts.{once, count_of}
-use Rattle.exec_path.proofs.Counting.{weight-IsPermutation}
+use Rattle.air_core.specs.Counts.{once, count_of}
+use Rattle.air_core.proofs.Counting.{weight-IsPermutation}
 use Rattle.exec_path.proofs.Ordering.{Ascends-from_IsNonDecreasingBy, Ascends-map, neighbours_differ, range_counts_once}
 use Rattle.exec_path.specs.declared.order.PathRow.{PathRow}
 use Rattle.exec_path.specs.Path.{TimedRow}

@@ -4,15 +4,16 @@ use Rattle.std.specs.Prelude.{nat_le}
 use Rattle.std.specs.List.{AllByRecursion}
 use Rattle.std.specs.List.Sorted.{IsPermutation, IsNonDecreasingBy}
 use Rattle.std.proofs.lemmas.List.Elements.{recursion_from_All}
-use Rattle.exec_path.proofs.Elements.{all_map}
+use Rattle.air_core.specs.ListLemmas.{all_weaker}
+use Rattle.air_core.proofs.ElementLemmas.{all_map}
 use Rattle.std.proofs.lemmas.Bool.{cases_eq, eq-eqb, ne_eqb, eqb-true}
 use Rattle.std.specs.Prelude.{nat_eq}
 use Rattle.std.specs.List.{range_with_len}
-use Rattle.exec_path.specs.Counts.{once, count_of}
+use Rattle.air_core.specs.Counts.{once, count_of}
 use Rattle.std.proofs.lemmas.Bool.{leb-true, leb-false}
 use Rattle.std.proofs.lemmas.List.Sorted.{IsPermutation-refl, IsPermutation-sym, IsPermutation-cons, IsPermutation-trans, IsPermutation-middle}
-use Rattle.exec_path.specs.Orders.{Ascends, Rises, Member}
-use Rattle.exec_path.proofs.Elements.{all_weaker, all_permuted, all_at, all_from_members, all_members}
+use Rattle.air_core.specs.Orders.{Ascends, Rises, Member}
+use Rattle.air_core.proofs.ElementLemmas.{all_permuted, all_at, all_from_members, all_members}
 
 module _ {X : Type 0} (key : X → ℕ) where
   -- x put before the first element whose key is not below its own

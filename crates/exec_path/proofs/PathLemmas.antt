@@ -8,10 +8,11 @@ use Rattle.std.proofs.lemmas.List.Sorted.{IsPermutation-map}
 use Rattle.air_core.specs.declared.event.Side.TheVariants.{Send, Receive}
 use Rattle.air_core.specs.Balance.{total, IsEven}
 use Rattle.air_core.proofs.BalanceLemmas.{total-append}
-use Rattle.exec_path.specs.Counts.{weight, once, count_of, IsEquality}
-use Rattle.exec_path.specs.Orders.{Ascends, Rises, Pairwise}
-use Rattle.exec_path.proofs.Elements.{all_weaker, all_permuted}
-use Rattle.exec_path.proofs.Counting.{weight-map, weight_from_counts, weight-IsPermutation, count_itself}
+use Rattle.air_core.specs.Counts.{weight, once, count_of, IsEquality}
+use Rattle.air_core.specs.Orders.{Ascends, Rises, Pairwise}
+use Rattle.air_core.specs.ListLemmas.{all_weaker}
+use Rattle.air_core.proofs.ElementLemmas.{all_permuted}
+use Rattle.air_core.proofs.Counting.{weight-map, weight_from_counts, weight-IsPermutation, count_itself}
 use Rattle.exec_path.proofs.Ordering.{in_order, in_order-IsPermutation, in_order-Ascends, rising_permutation_unique}
 use Rattle.exec_path.proofs.Totals.{same_tuple, balanced_same, total_each, total_send-exchange, total_receive-exchange, total_send-given_first, total_receive-given_first}
 use Rattle.exec_path.specs.Path.{Point, TimedRow, row_from, row_to, same_point, AddsSlots, slot_sum, PathBalanced, IsPath}

@@ -1,5 +1,3 @@
-pub mod Counts
-pub mod Orders
 pub mod Path
 pub mod PathEvents
 pub mod Order

@@ -3,8 +3,8 @@ use Rattle.std.specs.Prelude.{◌≡◌, ℕ, ◌+◌, ◌≤◌, Bool, ◌&&◌
 use Rattle.std.specs.List.{AllByRecursion}
 use Rattle.std.specs.List.Sorted.{IsPermutation}
 use Rattle.vm_field.specs.Field.{field_add}
-use Rattle.exec_path.specs.Counts.{weight, count_of}
-use Rattle.exec_path.specs.Orders.{Ascends, Rises}
+use Rattle.air_core.specs.Counts.{weight, count_of}
+use Rattle.air_core.specs.Orders.{Ascends, Rises}
 
 -- a pc and a time
 pub record Point : Type 0 where

@@ -6,9 +6,9 @@ use Rattle.std.specs.List.Sorted.{IsPermutation}
 use Rattle.std.proofs.lemmas.List.Recursion.{is_sum_by}
 use Rattle.std.proofs.lemmas.List.Sorted.{IsPermutation-refl, IsPermutation-sym, IsPermutation-cons, IsPermutation-trans, IsPermutation-middle, sum_by-IsPermutation}
 use Rattle.std.proofs.lemmas.Bool.{false_from_ne_true}
-use Rattle.exec_path.specs.Orders.{Member}
-use Rattle.exec_path.proofs.Elements.{member_middle}
-use Rattle.exec_path.specs.Counts.{weight, once, count_of, IsEquality}
+use Rattle.air_core.specs.Orders.{Member}
+use Rattle.air_core.proofs.ElementLemmas.{member_middle}
+use Rattle.air_core.specs.Counts.{weight, once, count_of, IsEquality}
 
 module _ {X : Type 0} where
   pub weight-append : (w : X → ℕ) (xs ys : List X) → weight w (xs ++ ys) ≡ weight w xs + weight w ys

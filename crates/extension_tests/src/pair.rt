@@ -1,0 +1,134 @@
+//! Two tables whose meaning hangs on a private bus.
+
+ghost use Rattle.std.specs.Prelude.{◌≡◌, ◌<◌, length};
+ghost use Rattle.air_core.specs.First.{first_from};
+ghost use Rattle.extension_tests.specs.Pair.{pair, step_sheet, answer_sheet, step_lines, step_numbers, answer_constraint};
+ghost use Rattle.extension_tests.specs.PairLaws.{pair_fits, pair_buses, pair_rows, pair_timed, pair_complete, pair_quiet};
+ghost use Rattle.extension_tests.specs.PairSound.{pair_sound};
+
+use air_core::{
+    Event, EventSink, Extension, HintWord, OutOfMemory, bit, element, first_nonzero, hand_counted,
+    path_events, receive, send,
+};
+use vm_field::Fe;
+use vm_isa::{StepRecord, opcode};
+
+/// The no-operation in two tables: table 0 steps by a number that table 1 gives on bus 6.
+#[derive(Clone, Copy, Debug)]
+pub struct Pair;
+
+impl Extension for Pair {
+    ghost system = { λ _. pair };
+
+    ghost fits = { λ _. pair_fits };
+
+    ghost buses = { λ _. pair_buses };
+
+    ghost rows = { λ _. pair_rows };
+
+    ghost timed = { λ _. pair_timed };
+
+    ghost sound = { λ _. pair_sound };
+
+    ghost complete = { λ _. pair_complete };
+
+    ghost quiet = { λ _. pair_quiet };
+
+    fn tables(&self) -> u32 {
+        2
+    }
+
+    fn width(&self, table: u32) -> u32 {
+        if table == 0 { 4 } else { 2 }
+    }
+
+    fn slots(&self, table: u32) -> u32 {
+        if table == 0 { 1 } else { 0 }
+    }
+
+    fn time_bits(&self) -> u32 {
+        24
+    }
+
+    fn owner(&self, op: u8) -> Option<u32> {
+        if op == opcode::NOP { Some(0) } else { None }
+    }
+
+    fn is_private(&self, bus: u8) -> bool {
+        bus == 6
+    }
+
+    fn rows_for(&self, done: &StepRecord, _table: u32) -> u32 {
+        if done.instr.op == opcode::NOP { 1 } else { 0 }
+    }
+
+    fn first_broken(&self, table: u32, row: &[Fe]) -> Option<u32> {
+        if table == 0 {
+            first_nonzero(0, &[bit(row[2])])
+        } else {
+            first_nonzero(0, &[answer_broken(row[0], row[1])])
+        }
+    }
+
+    fn events<S: EventSink>(
+        &self,
+        table: u32,
+        row: &[Fe],
+        sink: &mut S,
+    ) -> Result<(), OutOfMemory> {
+        match table {
+            0 => hand_counted(&step_events(row[0], row[1], row[2], row[3]), sink),
+            1 => hand_counted(&answer_events(row), sink),
+            _ => unreachable!(),
+        }
+    }
+
+    fn hint(&self, table: u32, row: &[Fe]) -> Option<HintWord> {
+        None
+    }
+
+    fn fill(&self, done: &StepRecord, table: u32, _place: u32, row: &mut [Fe]) {
+        match table {
+            0 => row.copy_from_slice(&[
+                element(done.instr.pc),
+                element(done.time),
+                Fe::ONE,
+                Fe::of_u16(4),
+            ]),
+            1 => row.copy_from_slice(&[Fe::of_u16(4), Fe::ONE]),
+            _ => unreachable!(),
+        }
+    }
+}
+
+#[tactic(auto, unfolding(crate::specs::Pair::answer_constraint))]
+fn answer_broken(y: Fe, count: Fe) -> Fe
+    ensures { result ≡ answer_constraint y count }
+{
+    count.mul(y.sub(Fe::of_u16(4)))
+}
+
+#[tactic(auto, unfolding(crate::specs::Pair::step_numbers))]
+fn numbers(pc: Fe, flag: Fe) -> [Fe; 12]
+    ensures { result ≡ step_numbers pc flag }
+{
+    let mut numbers = [Fe::ZERO; 12];
+    numbers[0] = pc;
+    numbers[1] = flag.mul(Fe::of_u16(39));
+    numbers
+}
+
+#[tactic(auto, unfolding(crate::specs::Pair::step_lines))]
+fn step_events(pc: Fe, time: Fe, flag: Fe, x: Fe) -> [Event; 4]
+    ensures { result ≡ step_lines pc time flag x }
+{
+    let [from, to, program] = path_events(flag, pc, time, pc.add(x), 1, &numbers(pc, flag));
+    [from, to, program, send(6, flag, &[x])]
+}
+
+fn answer_events(row: &[Fe]) -> [Event; 1]
+    requires { length row.now ≡ 2 }
+    ensures { result ≡ answer_sheet.lines row.now }
+{
+    [receive(6, row[1], &[row[0]])]
+}
