@@ -1,0 +1,9 @@
+pub mod Pairs
+pub mod MemoryLemmas
+pub mod ByteLemmas
+pub mod PageLemmas
+pub mod EventLemmas
+pub mod BoundaryLemmas
+pub mod StepTimes
+pub mod SegmentLemmas
+pub mod WholeSegment

@@ -1,0 +1,6 @@
+pub mod Memory
+pub mod Bytes
+pub mod Pages
+pub mod MemoryEvents
+pub mod Segment
+pub mod Laws
