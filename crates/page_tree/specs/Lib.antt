@@ -1,0 +1,7 @@
+pub mod Tree
+pub mod Opening
+pub mod Path
+pub mod Chain
+pub mod Parts
+pub mod Kept
+pub mod Laws
