@@ -10,3 +10,4 @@ pub mod SizeLemmas
 pub mod KeptLemmas
 pub mod PutLemmas
 pub mod PlaceLemmas
+pub mod StartLemmas

@@ -4,4 +4,5 @@ pub mod Path
 pub mod Chain
 pub mod Parts
 pub mod Kept
+pub mod Start
 pub mod Laws

@@ -7,6 +7,7 @@ pub mod laws;
 mod leaf;
 mod opening;
 mod path;
+mod start;
 #[cfg(test)]
 mod tests;
 mod tree;
