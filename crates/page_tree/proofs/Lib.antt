@@ -5,6 +5,7 @@ pub mod RootLemmas
 pub mod PathLemmas
 pub mod CompleteLemmas
 pub mod PartLemmas
+pub mod PartingLemmas
 pub mod PageLemmas
 pub mod SizeLemmas
 pub mod KeptLemmas

@@ -19,16 +19,12 @@ pub enum OpeningError {
 
 // The first of the places from `from` to `to` whose label is `middle` or more, or `to`.
 pub fn parting(labels: &[u32], from: usize, to: usize, middle: u32) -> usize
+    requires rising { IsStrictlyIncreasing labels.now }
     requires ordered { from ≤ to }
     requires in_list { to ≤ length labels.now }
     ensures { Parts labels.now from to middle result }
 {
-    for k in from..to {
-        if labels[k] >= middle {
-            return k;
-        }
-    }
-    to
+    from + labels[from..to].partition_point(|label| *label < middle)
 }
 
 // The number of siblings that an opening needs below a node.
@@ -63,16 +59,12 @@ pub fn sibling_count(labels: &[u32]) -> u32
 
 // The same as `parting`, at the labels of pages.
 fn page_parting(pages: &[Touched], from: usize, to: usize, middle: u32) -> usize
+    requires rising { IsStrictlyIncreasing (labels_of pages.now) }
     requires ordered { from ≤ to }
     requires in_list { to ≤ length pages.now }
     ensures { Parts (labels_of pages.now) from to middle result }
 {
-    for k in from..to {
-        if pages[k].label >= middle {
-            return k;
-        }
-    }
-    to
+    from + pages[from..to].partition_point(|page| page.label < middle)
 }
 
 // The digests of a node over old and over new bytes, and how many siblings have been taken.

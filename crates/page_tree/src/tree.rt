@@ -31,16 +31,12 @@ fn zero_digests() -> [Digest; 26]
 
 // The first of the places from `from` to `to` whose label is `middle` or more, or `to`.
 fn leaf_parting(leaves: &[Leaf], from: usize, to: usize, middle: u32) -> usize
+    requires rising { IsStrictlyIncreasing (leaf_labels leaves.now) }
     requires ordered { from ≤ to }
     requires in_list { to ≤ length leaves.now }
     ensures { Parts (leaf_labels leaves.now) from to middle result }
 {
-    for k in from..to {
-        if leaves[k].label >= middle {
-            return k;
-        }
-    }
-    to
+    from + leaves[from..to].partition_point(|leaf| leaf.label < middle)
 }
 
 // The digest of a node, below which the leaves at these places lie.
