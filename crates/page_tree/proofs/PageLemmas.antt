@@ -1,7 +1,8 @@
 -- The opening lemma at the root, said of pages.
-use Rattle.std.proofs.Common.{◌≡◌, ℕ, ◌<◌, List, [], length, get_or, sym, subst, ◌∙◌, inl, inr, ⊎_elim, arith}
+use Rattle.std.proofs.Common.{◌≡◌, ℕ, ◌+◌, ◌<◌, List, [], ◌∷◌, ◌++◌, length, take, get_or, slice_index, ap, sym, subst, ◌∙◌, inl, inr, ⊎_elim, arith}
 use Rattle.std.specs.List.{Contains}
 use Rattle.std.specs.List.Sorted.{IsStrictlyIncreasing}
+use Rattle.std.proofs.lemmas.List.{map-append, take_more}
 use Rattle.std.proofs.lemmas.List.Elements.{Contains-get_or}
 use Rattle.page_tree.specs.Tree.{Leaves, root, IsNode, Collision}
 use Rattle.page_tree.specs.Opening.{AreDigests, AreLabels, OpensTree, opening_root, opening_nodes}
@@ -27,3 +28,12 @@ pages_open m pages siblings start end rising in_tree digests is_start is_end e =
     }))
     (λ (c : Collision (IsNode m) (Contains (opening_nodes (labels_of pages) (old_at pages) siblings))). inr c)
     (opens_tree m (old_at pages) (new_at pages) (labels_of pages) siblings in_tree digests (sym is_start ∙ e))
+
+-- one page more, of the next label
+pub labels_of-push : (pages : List Touched) (labels : List ℕ) (i : ℕ) (page : Touched) → i < length labels → labels_of pages ≡ take i labels → page.label ≡ slice_index labels i → labels_of (pages ++ page ∷ []) ≡ take (i + 1) labels
+unfolding labels_of
+labels_of-push pages labels i page in_list before label =
+    map-append label_of pages (page ∷ [])
+    ∙ ap (λ (xs : List ℕ). xs ++ page.label ∷ []) before
+    ∙ ap (λ (x : ℕ). take i labels ++ x ∷ []) label
+    ∙ sym (take_more labels i 0 in_list)
