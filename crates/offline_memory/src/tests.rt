@@ -2,6 +2,7 @@
 
 use super::*;
 use air_core::{Event, EventList, Side, Tuple};
+use std::alloc::Global;
 use std::test::Fail;
 
 /// A block of the page of registers: its number, the first byte of its word at the start and at the end,
@@ -10,7 +11,7 @@ type Block = (usize, u8, u8, u32);
 
 /// An access: its block, the first byte of the old word with the time before, and the first byte of the
 /// new word with its own time.
-type Access = (usize, u8, u32, u8, u32);
+type Access = (u32, u8, u32, u8, u32);
 
 struct Case {
     blocks: &'static [Block],
@@ -104,16 +105,17 @@ fn replays(page: &Touched, accesses: &[Access]) -> bool {
         memory[block] = (page.old[4 * block], 0);
     }
     for (block, old, before, new, time) in accesses {
-        if *block >= 16 || memory[*block] != (*old, *before) {
+        let block = *block as usize;
+        if block >= 16 || memory[block] != (*old, *before) {
             return false;
         }
-        memory[*block] = (*new, *time);
+        memory[block] = (*new, *time);
     }
     (0..16).all(|block| memory.get(block) == Some(&(page.new[4 * block], page.times[block])))
 }
 
-fn event(side: Side, block: usize, first: u8, time: u32) -> Event {
-    let pointer = (block as u32).wrapping_mul(4);
+fn event(side: Side, block: u32, first: u8, time: u32) -> Event {
+    let pointer = block.wrapping_mul(4);
     Event {
         bus: 2,
         side,
@@ -131,17 +133,27 @@ fn balances(events: &[Event]) -> bool {
     })
 }
 
+/// The events of the page, and those of the accesses.
+fn events_of(
+    alloc: Global,
+    page: &Touched,
+    accesses: &[Access],
+) -> Result<Vec<Event>, OutOfMemory> {
+    let mut of_page = EventList::new(alloc);
+    boundary_events(page, &mut of_page)?;
+    let mut events = of_page.as_slice().to_vec(alloc)?;
+    for (block, old, before, new, time) in accesses {
+        events.push(event(Side::Receive, *block, *old, *before))?;
+        events.push(event(Side::Send, *block, *new, *time))?;
+    }
+    Ok(events)
+}
+
 #[test]
 fn balance_is_replay(rt: HostRuntime) -> Result<(), Fail> {
     for (i, case) in CASES.iter().enumerate() {
         let page = page_of(case.blocks);
-        let mut of_page = EventList::new(rt.alloc());
-        boundary_events(&page, &mut of_page)?;
-        let mut events = of_page.as_slice().to_vec(rt.alloc())?;
-        for (block, old, before, new, time) in case.accesses {
-            events.push(event(Side::Receive, *block, *old, *before))?;
-            events.push(event(Side::Send, *block, *new, *time))?;
-        }
+        let events = events_of(rt.alloc(), &page, case.accesses)?;
         assert_eq!(rt; replays(&page, case.accesses), case.replays, "case {i}");
         assert_eq!(rt; balances(&events), case.replays, "case {i}");
     }
