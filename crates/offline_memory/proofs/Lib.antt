@@ -2,6 +2,7 @@ pub mod Pairs
 pub mod MemoryLemmas
 pub mod ByteLemmas
 pub mod PageLemmas
+pub mod AnyOrder
 pub mod EventLemmas
 pub mod BoundaryLemmas
 pub mod StepTimes

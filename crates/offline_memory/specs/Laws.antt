@@ -1,15 +1,16 @@
 -- The laws of one sequential memory. Each is the contract of a function in src/laws.rt.
-use Rattle.std.specs.Prelude.{ℕ, ◌+◌, ◌<◌, ◌≤◌, List, flat_map}
+use Rattle.std.specs.Prelude.{ℕ, ◌+◌, ◌<◌, ◌≤◌, List, flat_map, map}
 use Rattle.std.specs.List.{AllByRecursion}
 use Rattle.vm_field.specs.Field.{modulus}
 use Rattle.air_core.specs.declared.event.Event.{Event}
 use Rattle.air_core.specs.Balance.{Balanced, BalancedOn}
+use Rattle.exec_path.specs.Orders.{Distinct}
 use Rattle.exec_path.specs.Path.{Point, slot_sum}
 use Rattle.exec_path.specs.PathEvents.{SameTotals, is_bus, execution_events}
 use Rattle.offline_memory.specs.declared.page.Touched.{Touched}
 use Rattle.offline_memory.specs.Memory.{Access, MemoryBalanced, InTime}
 use Rattle.offline_memory.specs.Bytes.{KeepBytes, HasBytes}
-use Rattle.offline_memory.specs.Pages.{blocks_of, DistinctLabels, PagesOfBytes, SequentialMemory, IsOldTime, MemoryOfPages, UntouchedStays}
+use Rattle.offline_memory.specs.Pages.{blocks_of, DistinctLabels, PagesOfBytes, SequentialMemory, OrderedMemory, IsOldTime, MemoryOfPages, UntouchedStays}
 use Rattle.offline_memory.specs.MemoryEvents.{memory_events}
 use Rattle.offline_memory.specs.Segment.{TableRow, RowSays, NotOn, OneRun, accesses_of, rows_of, steps_of, segment_events}
 
@@ -18,6 +19,12 @@ use Rattle.offline_memory.specs.Segment.{TableRow, RowSays, NotOn, OneRun, acces
 abbrev pub BalancedAccessesAreOneMemory : Type 0
 BalancedAccessesAreOneMemory = (pages : List Touched) (accesses : List Access) → DistinctLabels pages → InTime accesses
     → MemoryBalanced (blocks_of pages) accesses → SequentialMemory pages accesses
+
+-- The same of accesses listed in any order, whose times differ.
+abbrev pub DistinctTimesAreOneMemory : Type 0
+DistinctTimesAreOneMemory = (pages : List Touched) (accesses : List Access) → DistinctLabels pages
+    → Distinct (map (λ (a : Access). a.time) accesses) → AllByRecursion (λ a. a.before < a.time) accesses
+    → MemoryBalanced (blocks_of pages) accesses → OrderedMemory pages accesses
 
 -- All words of such a memory are bytes, where the pages' old bytes are and each row keeps bytes.
 abbrev pub BalancedAccessesHaveBytes : Type 0

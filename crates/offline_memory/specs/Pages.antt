@@ -1,9 +1,9 @@
 -- Pages and their blocks.
-use Rattle.std.specs.Prelude.{◌≡◌, ℕ, ◌+◌, ◌*◌, ◌/◌, ◌%◌, ◌<◌, ◌⊎◌, List, [], ◌∷◌, map, flat_map, slice_index, Option, Some}
+use Rattle.std.specs.Prelude.{◌≡◌, ℕ, ◌+◌, ◌*◌, ◌/◌, ◌%◌, ◌<◌, ◌⊎◌, List, [], ◌∷◌, map, flat_map, slice_index, Option, Some, IsPermutation}
 use Rattle.std.specs.List.{AllByRecursion, range_with_len}
 use Rattle.offline_memory.specs.declared.page.Touched.{Touched}
 use Rattle.exec_path.specs.Orders.{Distinct, Member}
-use Rattle.offline_memory.specs.Memory.{Access, Block, cell_at, first_cell, last_cell, place_of, met_cell, Replays}
+use Rattle.offline_memory.specs.Memory.{Access, Block, InTime, cell_at, first_cell, last_cell, place_of, met_cell, Replays}
 use Rattle.vm_isa.specs.Words.{IsBytes}
 
 -- a label is space * 2^23 + leaf
@@ -64,6 +64,13 @@ pub record InPages (pages : List Touched) (space pointer : ℕ) : Type 0 where
 pub record SequentialMemory (pages : List Touched) (accesses : List Access) : Type 0 where
   pub replays : Replays (memory_at_start pages) accesses (memory_at_end pages)
   pub inside : AllByRecursion (λ a. InPages pages a.space a.pointer) accesses
+
+-- in the order of their times they are
+pub record OrderedMemory (pages : List Touched) (accesses : List Access) : Type 0 where
+  pub ordered : List Access
+  pub same_accesses : IsPermutation accesses ordered
+  pub in_time : InTime ordered
+  pub memory : SequentialMemory pages ordered
 
 -- a time is 0 or that of an access
 abbrev pub IsOldTime : List Access → ℕ → Type 0

@@ -1,9 +1,14 @@
 // What follows from the balance of the memory bus. A law is the contract of a function without a body.
-ghost use Rattle.offline_memory.specs.Laws.{BalancedAccessesAreOneMemory, BalancedAccessesHaveBytes, BalancedEventsBalanceAccesses, BalancedSegmentIsOneRun, BalancedStepsAreOneRun, OldTimesAreAccessTimes, PagesAreMemories, UntouchedBlocksStay};
+ghost use Rattle.offline_memory.specs.Laws.{BalancedAccessesAreOneMemory, BalancedAccessesHaveBytes, BalancedEventsBalanceAccesses, BalancedSegmentIsOneRun, BalancedStepsAreOneRun, DistinctTimesAreOneMemory, OldTimesAreAccessTimes, PagesAreMemories, UntouchedBlocksStay};
 
 /// Accesses in the order of time that balance with pages of different labels are one sequential memory.
 pub fn balanced_accesses_are_one_memory()
     ensures { BalancedAccessesAreOneMemory }
+{}
+
+/// The same of accesses listed in any order, whose times differ.
+pub fn accesses_at_different_times_are_one_memory()
+    ensures { DistinctTimesAreOneMemory }
 {}
 
 /// All words are bytes, where pages have bytes and each row goes on from bytes to bytes.

@@ -2,9 +2,11 @@
 use Rattle.std.specs.Prelude.{◌≡◌, ℕ, ◌-◌, ◌^◌, ◌<◌, ◌≤◌, ◌⊎◌, List, length, drop}
 use Rattle.std.specs.List.{All, Contains}
 use Rattle.sha2.specs.Sha256.{sha256}
+use Rattle.elf_image.specs.Loaded.{Loaded}
 use Rattle.page_tree.specs.Tree.{Leaves, node, root, IsNode, IsNodeBelow, Collision}
 use Rattle.page_tree.specs.Opening.{AreDigests, AreLabels, walk, needed, Opened, OpensOrCollides, opening_root, opening_nodes, IsComplete}
 use Rattle.page_tree.specs.Path.{climb, path_of, ShowsOrCollides}
+use Rattle.page_tree.specs.Start.{start_map}
 use Rattle.page_tree.specs.Chain.{Opening, IsChain, ChainOpens, AreMatched, IsHeld, IsHeldWithPath, after}
 
 -- A walk leaves the siblings that it does not need, whatever the bytes at the labels are.
@@ -70,3 +72,7 @@ EachPlaceHasANode = (m : Leaves) (l i : ℕ) → l ≤ 25 → i < 2 ^ (25 - l) �
 abbrev pub EachNodeHasAPlace : Type 0
 EachNodeHasAPlace = (m : Leaves) (x : List ℕ) → IsNode m x
     → (l : ℕ) × (i : ℕ) × (l ≤ 25) × (i < 2 ^ (25 - l)) × (x ≡ node m l i)
+
+-- the leaves at the start have 64 bytes
+abbrev pub StartLeavesHave64Bytes : Type 0
+StartLeavesHave64Bytes = (image : Loaded) (label : ℕ) → length (start_map image label) ≡ 64

@@ -2,7 +2,8 @@
 use Rattle.std.specs.Prelude.{◌≡◌, ℕ, ◌+◌, ◌*◌, ◌^◌, ◌<◌, ◌≤◌, ◌⊎◌, List, [], ◌∷◌, length, map, slice_index, nat_eq, if◌then◌else◌}
 use Rattle.std.specs.List.{All, Contains}
 use Rattle.page_tree.specs.Tree.{Leaves, root, replaced, IsNode, Collision}
-use Rattle.page_tree.specs.Opening.{opening_root, opening_nodes, siblings_needed}
+use Rattle.page_tree.specs.Opening.{opening_root, opening_nodes, siblings_needed, siblings_of}
+use Rattle.page_tree.specs.Chain.{Opening}
 use Rattle.offline_memory.specs.declared.page.Touched.{Touched}
 
 -- the bytes of the first of these items that has the label, or `none`
@@ -40,6 +41,10 @@ pub record Parts (labels : List ℕ) (from to middle at : ℕ) : Type 0 where
   pub below : (k : ℕ) → from ≤ k → k < at → slice_index labels k < middle
   pub reached : at < to → middle ≤ slice_index labels at
 
+-- the opening of these pages with these siblings
+abbrev pub opening_of_pages : List Touched → List (List ℕ) → Opening
+opening_of_pages pages siblings = record { labels = labels_of pages; old = old_at pages; new = new_at pages; siblings = siblings }
+
 -- the leaves with the pages' new bytes at their labels
 unfoldable pub with_pages : Leaves → List Touched → Leaves
 with_pages m pages = replaced m (labels_of pages) (new_at pages)
@@ -61,3 +66,13 @@ pub record PagesOpen (m : Leaves) (pages : List Touched) (siblings : List (List 
 abbrev pub PagesOpenOrCollide : Leaves → List Touched → List (List ℕ) → List ℕ → Type 0
 PagesOpenOrCollide m pages siblings end =
     PagesOpen m pages siblings end ⊎ Collision (IsNode m) (Contains (opening_nodes (labels_of pages) (old_at pages) siblings))
+
+-- the tree m opens these pages: their old bytes are m's leaves, and the siblings are m's own
+pub record IsOpenedBy (m : Leaves) (pages : List Touched) (siblings : List (List ℕ)) : Type 0 where
+  pub matches : All (λ p. p.old ≡ m p.label) pages
+  pub own : siblings ≡ siblings_of m (labels_of pages)
+
+-- the two roots of a tree and of the tree with the pages' new bytes
+pub record AreTreeRoots (m : Leaves) (pages : List Touched) (old new : List ℕ) : Type 0 where
+  pub old_root : old ≡ root m
+  pub new_root : new ≡ root (with_pages m pages)

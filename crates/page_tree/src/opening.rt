@@ -1,9 +1,9 @@
 // The opening of pages: the roots over their old and over their new bytes.
-ghost use Rattle.std.specs.Prelude.{◌≡◌, ◌≢◌, ℕ, ◌+◌, ◌*◌, ◌^◌, ◌<◌, ◌≤◌, length, drop, slice_index, slice_index_or, replicate, IfOk, IfErr, OnErr};
+ghost use Rattle.std.specs.Prelude.{◌≡◌, ◌≢◌, ℕ, ◌+◌, ◌*◌, ◌^◌, ◌<◌, ◌≤◌, length, drop, slice_index, slice_index_or, replicate, IfOk, IfErr, IsOk, OnErr};
 ghost use Rattle.std.specs.List.Sorted.{IsStrictlyIncreasing};
 ghost use Rattle.page_tree.specs.Tree.{Leaves, root};
 ghost use Rattle.page_tree.specs.Opening.{AreLabels, needed, siblings_needed, walk};
-ghost use Rattle.page_tree.specs.Parts.{labels_of, old_at, new_at, IsPart, Parts, AreRoots, PagesOpenOrCollide};
+ghost use Rattle.page_tree.specs.Parts.{labels_of, old_at, new_at, IsPart, Parts, AreRoots, AreTreeRoots, IsOpenedBy, PagesOpenOrCollide};
 
 use crate::hash::{leaf_digest, pair_digest};
 use crate::{Digest, Touched};
@@ -153,6 +153,11 @@ pub fn roots_of(pages: &[Touched], siblings: &[Digest]) -> Result<(Digest, Diges
     // The theorem: where the first root is that of a tree, its leaves are the pages' old bytes, and the
     // second root is that of the tree with the new bytes; or two different nodes have one digest.
     ensures opens { IfOk result (λ roots. (m : Leaves) → roots.0 ≡ root m → PagesOpenOrCollide m pages.now siblings.now roots.1) }
+
+    // And the other way: a tree's own siblings open it, and give its root and the root of the tree with the
+    // new bytes.
+    ensures complete { (m : Leaves) → IsOpenedBy m pages.now siblings.now → IsOk result }
+    ensures of_tree { IfOk result (λ roots. (m : Leaves) → IsOpenedBy m pages.now siblings.now → AreTreeRoots m pages.now roots.0 roots.1) }
 {
     let roots = roots_below(pages, siblings, 25, 0, 0, pages.len(), 0);
     if roots.taken != siblings.len() {
