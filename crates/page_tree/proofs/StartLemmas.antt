@@ -11,7 +11,8 @@ use Rattle.elf_image.specs.Loaded.{Load, Loaded, IsPart, gives, byte_in, byte_of
 use Rattle.elf_image.specs.declared.LoadPart.{LoadPart}
 use Rattle.page_tree.specs.Tree.{Leaves}
 use Rattle.page_tree.specs.Kept.{put_at}
-use Rattle.page_tree.specs.Start.{memory_leaf, start_map, IsRightOrZeros, MemoryPut, NoneGives, IsLoaded}
+use Rattle.page_tree.specs.Loading.{IsRightOrZeros, MemoryPut, NoneGives, IsLoaded}
+use Rattle.page_tree.specs.Start.{memory_leaf, start_map}
 
 pub start_map-in : (image : Loaded) (label : ℕ) → label / 8388608 ≡ 2 → start_map image label ≡ memory_leaf image (label % 8388608)
 unfolding start_map

@@ -5,4 +5,5 @@ pub mod Chain
 pub mod Parts
 pub mod Kept
 pub mod Start
+pub mod Loading
 pub mod Laws

@@ -1,7 +1,8 @@
 // The tree at the start of a run.
 ghost use Rattle.std.specs.Prelude.{◌≡◌, ℕ, ◌+◌, ◌^◌, ◌<◌, ◌≤◌, IfOk, OnOk};
 ghost use Rattle.page_tree.specs.Kept.{leaves_of, put_at};
-ghost use Rattle.page_tree.specs.Start.{IsLoaded, IsRightOrZeros, MemoryPut, memory_leaf, start_map};
+ghost use Rattle.page_tree.specs.Loading.{IsLoaded, IsRightOrZeros, MemoryPut};
+ghost use Rattle.page_tree.specs.Start.{memory_leaf, start_map};
 
 use crate::{OutOfMemory, Tree};
 use elf_image::Image;

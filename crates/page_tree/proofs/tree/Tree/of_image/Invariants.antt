@@ -1,5 +1,5 @@
 use Rattle.page_tree.specs.Kept.{leaves_of}
-use Rattle.page_tree.specs.Start.{IsLoaded}
+use Rattle.page_tree.specs.Loading.{IsLoaded}
 use Rattle.page_tree.proofs.tree.Tree.of_image.Given as goal
 
 abbrev pub invariant-loop-place : goal.invariant-loop-place
