@@ -1,16 +1,15 @@
 -- Accesses at different times, listed in any order.
-use Rattle.std.proofs.Common.{◌≡◌, ℕ, ◌+◌, ◌<◌, ◌≤◌, nat_eq, ⊎_elim, List, [], ◌∷◌, map, refl, sym, ap, subst, arith}
+use Rattle.std.proofs.Common.{◌≡◌, ℕ, ◌<◌, ◌≤◌, nat_eq, ⊎_elim, List, [], ◌∷◌, map, refl, ap, subst, arith}
 use Rattle.std.specs.Prelude.{IsPermutation}
 use Rattle.std.specs.List.{AllByRecursion}
 use Rattle.std.proofs.lemmas.Bool.{cases_eq, cases_lt, eq-eqb, eqb-true}
 use Rattle.exec_path.specs.Counts.{once, count_of, IsEquality}
-use Rattle.exec_path.specs.Orders.{Ascends, Rises, Distinct, Member}
-use Rattle.exec_path.proofs.Elements.{all_at, all_permuted, member_image}
-use Rattle.exec_path.proofs.Counting.{weight-map, weight-IsPermutation, count_itself, count_other, count_member, member_from_count}
+use Rattle.exec_path.specs.Orders.{Ascends, Rises, Distinct}
+use Rattle.exec_path.proofs.Elements.{all_at, all_permuted}
+use Rattle.exec_path.proofs.Counting.{weight-map, weight-IsPermutation, count_itself, count_other, member_from_count}
 use Rattle.exec_path.proofs.Ordering.{in_order, in_order-IsPermutation, in_order-Ascends}
-use Rattle.offline_memory.specs.declared.page.Touched.{Touched}
 use Rattle.offline_memory.specs.Memory.{Access, Block, MemoryBalanced, same_cell, met_cell, left_cell}
-use Rattle.offline_memory.specs.Pages.{blocks_of, OrderedMemory}
+use Rattle.offline_memory.specs.Pages.{blocks_of}
 use Rattle.offline_memory.specs.Laws.{DistinctTimesAreOneMemory}
 use Rattle.offline_memory.proofs.PageLemmas.{one_memory}
 

@@ -8,3 +8,4 @@ pub mod BoundaryLemmas
 pub mod StepTimes
 pub mod SegmentLemmas
 pub mod WholeSegment
+pub mod BlockLemmas

@@ -31,7 +31,7 @@ same_space a b h = ap (λ (x : ℕ × ℕ). x.0) h
 same_pointer : (a b : Cell) → place_of a ≡ place_of b → a.pointer ≡ b.pointer
 same_pointer a b h = ap (λ (x : ℕ × ℕ). x.1) h
 
-below_16 : AllByRecursion (λ i. i < 16) (range_with_len 0 16)
+pub below_16 : AllByRecursion (λ i. i < 16) (range_with_len 0 16)
 below_16 = all_weaker (λ i. (0 ≤ i) × (i < 0 + 16)) (λ i. i < 16) (λ i h. omega (arith, h.1)) (range_with_len 0 16) (range_within 0 16)
 
 -- the blocks of one page

@@ -4,6 +4,7 @@ use Rattle.std.specs.List.{AllByRecursion}
 use Rattle.vm_field.specs.Field.{modulus}
 use Rattle.air_core.specs.declared.event.Event.{Event}
 use Rattle.air_core.specs.Balance.{Balanced, BalancedOn}
+use Rattle.vm_isa.specs.Blocks.{Blocks}
 use Rattle.exec_path.specs.Orders.{Distinct}
 use Rattle.exec_path.specs.Path.{Point, slot_sum}
 use Rattle.exec_path.specs.PathEvents.{SameTotals, is_bus, execution_events}
@@ -12,7 +13,8 @@ use Rattle.offline_memory.specs.Memory.{Access, MemoryBalanced, InTime}
 use Rattle.offline_memory.specs.Bytes.{KeepBytes, HasBytes}
 use Rattle.offline_memory.specs.Pages.{blocks_of, DistinctLabels, PagesOfBytes, SequentialMemory, OrderedMemory, IsOldTime, MemoryOfPages, UntouchedStays}
 use Rattle.offline_memory.specs.MemoryEvents.{memory_events}
-use Rattle.offline_memory.specs.Segment.{TableRow, RowSays, NotOn, OneRun, accesses_of, rows_of, steps_of, segment_events}
+use Rattle.offline_memory.specs.BlockMemory.{ArePages, HasOld, HasNew, StepsMeet, after_steps}
+use Rattle.offline_memory.specs.Segment.{RowStep, TableRow, RowSays, NotOn, OneRun, accesses_of, rows_of, steps_of, segment_events}
 
 -- Accesses in the order of time, with each old time before its own, that balance with pages of different
 -- labels are one sequential memory. No bound on times is needed.
@@ -70,3 +72,11 @@ BalancedSegmentIsOneRun = (bound : ℕ) (start end : Point) (pages : List Touche
     → AllByRecursion (RowSays bound) rows → NotOn 0 others → NotOn 2 others → DistinctLabels pages
     → start.time + slot_sum (rows_of (steps_of rows)) ≤ bound → bound < modulus
     → Balanced (segment_events start end pages rows others) → OneRun start end pages (steps_of rows)
+
+-- Such a run is one on the virtual machine's blocks, where these have the pages' old words, and the pages
+-- lie in their spaces: each step finds its old words in the blocks that the steps before it left, and the
+-- last blocks have the pages' new words, and elsewhere what the first ones had.
+abbrev pub RunsMeetBlocks : Type 0
+RunsMeetBlocks = (start end : Point) (pages : List Touched) (steps : List RowStep) (run : OneRun start end pages steps) (blocks : Blocks)
+    → DistinctLabels pages → ArePages pages → HasOld pages blocks
+    → StepsMeet blocks run.path × HasNew pages blocks (after_steps blocks run.path)

@@ -3,4 +3,5 @@ pub mod Bytes
 pub mod Pages
 pub mod MemoryEvents
 pub mod Segment
+pub mod BlockMemory
 pub mod Laws

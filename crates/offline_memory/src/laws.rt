@@ -1,5 +1,5 @@
 // What follows from the balance of the memory bus. A law is the contract of a function without a body.
-ghost use Rattle.offline_memory.specs.Laws.{BalancedAccessesAreOneMemory, BalancedAccessesHaveBytes, BalancedEventsBalanceAccesses, BalancedSegmentIsOneRun, BalancedStepsAreOneRun, DistinctTimesAreOneMemory, OldTimesAreAccessTimes, PagesAreMemories, UntouchedBlocksStay};
+ghost use Rattle.offline_memory.specs.Laws.{BalancedAccessesAreOneMemory, BalancedAccessesHaveBytes, BalancedEventsBalanceAccesses, BalancedSegmentIsOneRun, BalancedStepsAreOneRun, DistinctTimesAreOneMemory, OldTimesAreAccessTimes, PagesAreMemories, RunsMeetBlocks, UntouchedBlocksStay};
 
 /// Accesses in the order of time that balance with pages of different labels are one sequential memory.
 pub fn balanced_accesses_are_one_memory()
@@ -44,4 +44,9 @@ pub fn balanced_steps_are_one_run()
 /// The valid rows of a segment whose events balance are one run, whatever tables they are of.
 pub fn a_balanced_segment_is_one_run()
     ensures { BalancedSegmentIsOneRun }
+{}
+
+/// A run is one on the virtual machine's blocks, from the pages' old words to their new ones.
+pub fn a_run_meets_blocks()
+    ensures { RunsMeetBlocks }
 {}

@@ -127,8 +127,12 @@ fn event(side: Side, block: u32, first: u8, time: u32) -> Event {
 /// Whether each tuple is sent as often as it is received.
 fn balances(events: &[Event]) -> bool {
     events.iter().all(|event| {
-        let sent = events.iter().filter(|e| e.tuple == event.tuple && e.side == Side::Send);
-        let received = events.iter().filter(|e| e.tuple == event.tuple && e.side == Side::Receive);
+        let sent = events
+            .iter()
+            .filter(|e| e.tuple == event.tuple && e.side == Side::Send);
+        let received = events
+            .iter()
+            .filter(|e| e.tuple == event.tuple && e.side == Side::Receive);
         sent.count() == received.count()
     })
 }
