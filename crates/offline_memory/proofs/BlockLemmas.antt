@@ -108,7 +108,7 @@ agrees_at_start pages blocks old s p x e =
     ∙ old.has page.of number.of page.stands below
     ∙ ap (λ (c : Cell). c.word) whole
 
-block_inside : (label block : ℕ) → IsPage label → block < 16 → is_block (page_space label) (block_pointer label block) ≡ true
+pub block_inside : (label block : ℕ) → IsPage label → block < 16 → is_block (page_space label) (block_pointer label block) ≡ true
 block_inside label block is small =
     and_from (nat_eq (block_pointer label block % 4) 0) (nat_lt (block_pointer label block) (space_size (page_space label)))
     (eq-eqb (block_pointer label block % 4) 0 (omega arith))

@@ -12,3 +12,4 @@ pub mod KeptLemmas
 pub mod PutLemmas
 pub mod PlaceLemmas
 pub mod StartLemmas
+pub mod BlockLemmas

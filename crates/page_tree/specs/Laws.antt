@@ -1,8 +1,14 @@
 -- The laws of trees, openings and paths. Each is the contract of a function in src/laws.rt.
 use Rattle.std.specs.Prelude.{◌≡◌, ℕ, ◌-◌, ◌^◌, ◌<◌, ◌≤◌, ◌⊎◌, List, length, drop}
 use Rattle.std.specs.List.{All, Contains}
+use Rattle.std.specs.List.Sorted.{IsStrictlyIncreasing}
 use Rattle.sha2.specs.Sha256.{sha256}
 use Rattle.elf_image.specs.Loaded.{Loaded}
+use Rattle.vm_isa.specs.Blocks.{Blocks}
+use Rattle.offline_memory.specs.declared.page.Touched.{Touched}
+use Rattle.offline_memory.specs.BlockMemory.{ArePages, HasOld, HasNew}
+use Rattle.page_tree.specs.MapBlocks.{AreBlocksOf}
+use Rattle.page_tree.specs.Parts.{labels_of, with_pages}
 use Rattle.page_tree.specs.Tree.{Leaves, node, root, IsNode, IsNodeBelow, Collision}
 use Rattle.page_tree.specs.Opening.{AreDigests, AreLabels, walk, needed, Opened, OpensOrCollides, opening_root, opening_nodes, IsComplete}
 use Rattle.page_tree.specs.Path.{climb, path_of, ShowsOrCollides}
@@ -76,3 +82,13 @@ EachNodeHasAPlace = (m : Leaves) (x : List ℕ) → IsNode m x
 -- the leaves at the start have 64 bytes
 abbrev pub StartLeavesHave64Bytes : Type 0
 StartLeavesHave64Bytes = (image : Loaded) (label : ℕ) → length (start_map image label) ≡ 64
+
+-- Where a map's leaves are the pages' old bytes, and blocks are the map's, the blocks have the pages' old words.
+abbrev pub PagesHaveTheMapsBlocks : Type 0
+PagesHaveTheMapsBlocks = (m : Leaves) (pages : List Touched) (blocks : Blocks) → ArePages pages → All (λ p. p.old ≡ m p.label) pages
+    → AreBlocksOf m blocks → HasOld pages blocks
+
+-- And blocks that have the pages' new words, and elsewhere what they had, are those of the map with the pages' new bytes.
+abbrev pub PagesLeaveTheNewBlocks : Type 0
+PagesLeaveTheNewBlocks = (m : Leaves) (pages : List Touched) (old new : Blocks) → IsStrictlyIncreasing (labels_of pages) → AreBlocksOf m old → HasNew pages old new
+    → AreBlocksOf (with_pages m pages) new

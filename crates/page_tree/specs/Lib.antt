@@ -4,6 +4,7 @@ pub mod Path
 pub mod Chain
 pub mod Parts
 pub mod Kept
+pub mod MapBlocks
 pub mod Start
 pub mod Loading
 pub mod Laws

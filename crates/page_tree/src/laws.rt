@@ -1,5 +1,5 @@
 // What holds of every tree, whatever code runs. A law is the contract of a function without a body.
-ghost use Rattle.page_tree.specs.Laws.{ChainsOpen, ChainsShow, EachNodeHasAPlace, EachPlaceHasANode, HashedNodesHave64Bytes, NodesHave64Bytes, OpensAtRoot, OpensBelow, PathLeadsToTheRoot, PathsShow, StartLeavesHave64Bytes, TreesOpen, WalkTakesWhatItNeeds};
+ghost use Rattle.page_tree.specs.Laws.{ChainsOpen, ChainsShow, EachNodeHasAPlace, EachPlaceHasANode, HashedNodesHave64Bytes, NodesHave64Bytes, OpensAtRoot, OpensBelow, PagesHaveTheMapsBlocks, PagesLeaveTheNewBlocks, PathLeadsToTheRoot, PathsShow, StartLeavesHave64Bytes, TreesOpen, WalkTakesWhatItNeeds};
 
 /// A walk leaves the siblings that it does not need.
 pub fn a_walk_takes_what_it_needs()
@@ -56,4 +56,10 @@ pub fn nodes_are_at_places()
 /// The leaves at the start have 64 bytes.
 pub fn start_leaves_have_64_bytes()
     ensures { StartLeavesHave64Bytes }
+{}
+
+/// Pages that a map opens begin and end with its blocks.
+pub fn pages_are_blocks_of_the_map()
+    ensures old { PagesHaveTheMapsBlocks }
+    ensures new { PagesLeaveTheNewBlocks }
 {}
