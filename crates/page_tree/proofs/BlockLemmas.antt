@@ -1,22 +1,22 @@
 -- Pages of a map, and the blocks before and after them.
-use Rattle.std.proofs.Common.{◌≡◌, ℕ, zero, suc, ◌+◌, ◌*◌, ◌/◌, ◌%◌, ◌<◌, ◌≤◌, inl, inr, ⊎_elim, true, false, eqb, nat_eq, cond, List, [], ◌∷◌, length, map, get_or, refl, sym, ap, ◌∙◌, subst, arith}
+use Rattle.std.proofs.Common.{◌≡◌, ℕ, zero, suc, ◌+◌, ◌*◌, ◌/◌, ◌%◌, ◌<◌, ◌≤◌, inl, inr, ⊎_elim, true, false, eqb, nat_eq, List, [], ◌∷◌, length, get_or, refl, sym, ap, ◌∙◌, subst, arith}
 use Rattle.std.specs.Prelude.{nat_lt}
-use Rattle.std.specs.List.{All, Contains, AllByRecursion, list_any}
+use Rattle.std.specs.List.{Contains, list_any}
 use Rattle.std.specs.List.Sorted.{IsStrictlyIncreasing}
 use Rattle.std.proofs.lemmas.Bool.{cases_Bool, cases_eq, both_ways, eq-eqb, ne_eqb, eqb-true, and_parts}
 use Rattle.std.proofs.lemmas.List.{get_or_default}
 use Rattle.std.proofs.lemmas.Bool.Decides.{nat_tests}
 use Rattle.std.proofs.lemmas.List.Elements.{recursion_from_All}
-use Rattle.vm_isa.specs.Blocks.{Blocks, is_block, space_size}
+use Rattle.vm_isa.specs.Blocks.{is_block, space_size}
 use Rattle.exec_path.specs.Orders.{Member}
 use Rattle.exec_path.proofs.Elements.{all_at}
 use Rattle.offline_memory.specs.declared.page.Touched.{Touched}
 use Rattle.offline_memory.specs.Pages.{page_space, block_pointer, word_at, InPages}
-use Rattle.offline_memory.specs.BlockMemory.{IsPage, ArePages, HasOld, HasNew}
+use Rattle.offline_memory.specs.BlockMemory.{IsPage}
 use Rattle.offline_memory.proofs.BlockLemmas.{block_inside}
-use Rattle.page_tree.specs.Tree.{Leaves, replaced}
+use Rattle.page_tree.specs.Tree.{Leaves}
 use Rattle.page_tree.specs.Parts.{label_of, labels_of, bytes_at, new_at, with_pages}
-use Rattle.page_tree.specs.MapBlocks.{map_block, AreBlocksOf}
+use Rattle.page_tree.specs.MapBlocks.{map_block}
 use Rattle.page_tree.specs.Laws.{PagesHaveTheMapsBlocks, PagesLeaveTheNewBlocks}
 use Rattle.page_tree.proofs.TreeLemmas.{replaced-at, replaced-other, has-true, has-from}
 use Rattle.page_tree.proofs.PartLemmas.{bytes_at-place, labels_of-place, length-labels_of}

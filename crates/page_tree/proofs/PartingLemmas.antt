@@ -1,5 +1,5 @@
 -- The place that parts rising labels at one, found by a search among some of the places.
-use Rattle.std.proofs.Common.{◌≡◌, ℕ, ◌+◌, ◌-◌, ◌<◌, ◌≤◌, Bool, true, false, Bor, ltb, List, [], ◌∷◌, refl, length, length-drop, length-take-le, map, get_or, slice_index, take, drop, sym, ap, ◌∙◌, subst, ⊎_elim, inl, inr, arith}
+use Rattle.std.proofs.Common.{◌≡◌, ℕ, ◌+◌, ◌-◌, ◌<◌, ◌≤◌, Bool, true, false, Bor, ltb, List, [], ◌∷◌, refl, length, length-drop, length-take-le, map, get_or, slice_index, drop, sym, ap, ◌∙◌, subst, ⊎_elim, arith}
 use Rattle.std.specs.Prelude.{slice_range}
 use Rattle.std.specs.List.Sorted.{IsStrictlyIncreasing, IsNonDecreasingBy, IsPartitionPoint, IsPartitionedBy}
 use Rattle.std.specs.Fn.{Called, ComputesKey, Mut}

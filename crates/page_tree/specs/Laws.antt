@@ -51,7 +51,7 @@ ChainsShow = (m : Leaves) (openings : List Opening) (end : List ℕ) (label : �
     → IsChain (root m) openings end → label < 2 ^ 25 → length path ≡ 25 → AreDigests path
     → climb label leaf path ≡ end
     → (AreMatched m openings × (leaf ≡ after m openings label))
-        ⊎ Collision (IsHeldWithPath m openings label leaf path) (IsHeldWithPath m openings label leaf path)
+    ⊎ Collision (IsHeldWithPath m openings label leaf path) (IsHeldWithPath m openings label leaf path)
 
 -- a tree's own siblings open it, and give the root of the tree with other bytes at the labels
 abbrev pub TreesOpen : Type 0

@@ -208,10 +208,7 @@ impl Tree {
         ensures err { OnErr result (self.new ≡ self.old) }
     {
         let at = leaf_parting(&self.leaves, 0, self.leaves.len(), label);
-        let leaf = Leaf {
-            label,
-            bytes: page,
-        };
+        let leaf = Leaf { label, bytes: page };
         if at < self.leaves.len() && self.leaves[at].label == label {
             self.leaves[at] = leaf;
         } else {

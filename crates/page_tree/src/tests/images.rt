@@ -15,7 +15,11 @@ const WORDS: [u8; 12] = [
 type Load = (u32, u32, u32, u32);
 
 /// An ELF file whose entry is 0x1000, with two loads and these bytes from offset 116 on.
-fn file_of(alloc: Global, loads: &[Load; 2], bytes: &[u8]) -> Result<Vec<u8>, std::alloc::AllocError> {
+fn file_of(
+    alloc: Global,
+    loads: &[Load; 2],
+    bytes: &[u8],
+) -> Result<Vec<u8>, std::alloc::AllocError> {
     let mut file = Vec::new(alloc);
     file.extend_from_slice(&[0x7f, b'E', b'L', b'F', 1, 1, 1, 0, 0, 0, 0, 0, 0, 0, 0, 0])?;
     file.extend_from_slice(&[2, 0, 243, 0, 1, 0, 0, 0, 0, 0x10, 0, 0, 52, 0, 0, 0])?;
@@ -37,14 +41,19 @@ fn image_of(alloc: Global, loads: &[Load; 2], bytes: &[u8]) -> Result<Option<Ima
 
 // A leaf of zeros, and the node over two of them.
 const ZERO_LEAF: &str = "f5a5fd42d16a20302798ef6ed309979b43003d2320d9f0e8ea9831a92759fb4b";
+
 const ZERO_PAIR: &str = "db56114e00fdd4c1f85c892bf35ac9a89289aaecb1ebd0a96cde606a748b5d71";
 
 #[test]
 fn trees_of_images(rt: HostRuntime) -> Result<(), Fail> {
     let alloc = rt.alloc();
     // three words, and a load of which the file gives nothing
-    let image = image_of(alloc, &[(0x1000, 116, 12, 12), (0x2000, 116, 0, 0x1000)], &WORDS)?
-        .ok_or("the first file is refused")?;
+    let image = image_of(
+        alloc,
+        &[(0x1000, 116, 12, 12), (0x2000, 116, 0, 0x1000)],
+        &WORDS,
+    )?
+    .ok_or("the first file is refused")?;
     let tree = Tree::of_image(alloc, &image)?;
     let root = "a39f03217b103601f86f79a97f7175e72d7534818748d0140a22936573798f5f";
     assert!(rt; is_digest(&tree.root(), root));
@@ -57,8 +66,12 @@ fn trees_of_images(rt: HostRuntime) -> Result<(), Fail> {
         bytes.push(byte)?;
     }
     bytes.extend_from_slice(&WORDS)?;
-    let image = image_of(alloc, &[(0x1054, 216, 12, 12), (0xff0, 116, 100, 100)], &bytes)?
-        .ok_or("the second file is refused")?;
+    let image = image_of(
+        alloc,
+        &[(0x1054, 216, 12, 12), (0xff0, 116, 100, 100)],
+        &bytes,
+    )?
+    .ok_or("the second file is refused")?;
     let tree = Tree::of_image(alloc, &image)?;
     let root = "d7a5e8a1dc9189721fe05fbf17f034d0bed55ab0bb0ff53029183f909c54e1ce";
     assert!(rt; is_digest(&tree.root(), root));

@@ -13,6 +13,7 @@ use std::test::Fail;
 
 /// The levels of the plain tree, and the node of that level that it is.
 const HEIGHT: u32 = 4;
+
 const INDEX: u32 = 25_165_824 / 16;
 
 /// The bytes at a label.

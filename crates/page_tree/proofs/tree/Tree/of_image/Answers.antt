@@ -1,4 +1,4 @@
-use Rattle.std.proofs.Common.{length, arith}
+use Rattle.std.proofs.Common.{arith}
 use Rattle.page_tree.specs.Kept.{leaves_of}
 use Rattle.page_tree.proofs.StartLemmas.{IsLoaded-none, IsLoaded-all}
 use Rattle.page_tree.proofs.tree.Tree.of_image.Goals as goal

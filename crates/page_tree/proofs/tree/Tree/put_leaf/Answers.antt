@@ -1,6 +1,5 @@
-use Rattle.std.proofs.Common.{◌≡◌, ◌+◌, replicate, sym, ap, ◌∙◌}
+use Rattle.std.proofs.Common.{◌+◌, replicate, sym, ap, ◌∙◌}
 use Rattle.page_tree.specs.Kept.{leaves_of, put_at}
-use Rattle.page_tree.specs.Start.{start_map}
 use Rattle.page_tree.proofs.StartLemmas.{start_map-leaf, zeros-put, not_different}
 use Rattle.page_tree.proofs.tree.Tree.put_leaf.Goals as goal
 

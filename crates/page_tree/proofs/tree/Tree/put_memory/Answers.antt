@@ -1,7 +1,6 @@
-use Rattle.std.proofs.Common.{◌≡◌, ℕ, ◌+◌, subst, sym, ap, ◌∙◌, replicate, arith, ⊎_elim, inl, inr}
+use Rattle.std.proofs.Common.{◌≡◌, ℕ, ◌+◌, subst, arith}
 use Rattle.page_tree.specs.Kept.{leaves_of}
 use Rattle.page_tree.specs.Loading.{MemoryPut}
-use Rattle.page_tree.specs.Start.{start_map}
 use Rattle.page_tree.proofs.StartLemmas.{MemoryPut-none, MemoryPut-more, begun_still}
 use Rattle.page_tree.proofs.tree.Tree.put_memory.Goals as goal
 

@@ -1,4 +1,3 @@
-use Rattle.std.proofs.Common.{◌≤◌}
 use Rattle.page_tree.specs.Kept.{leaves_of}
 use Rattle.page_tree.specs.Loading.{MemoryPut}
 use Rattle.page_tree.proofs.tree.Tree.put_memory.Given as goal
