@@ -11,7 +11,8 @@ use Rattle.air_core.specs.Sheet.{Sheet, row_events}
 use Rattle.air_core.specs.Balance.{Balanced, BalancedOn, total, amount_at, is_at, IsEven}
 use Rattle.air_core.proofs.BalanceLemmas.{total-cons, there_of_test}
 use Rattle.exec_path.specs.PathEvents.{connector_events}
-use Rattle.exec_path.proofs.Elements.{all_append, all_flat_map, all_from_members}
+use Rattle.air_core.proofs.ElementLemmas.{all_flat_map, all_from_members}
+use Rattle.air_core.specs.ListLemmas.{all_append}
 use Rattle.table_format.specs.declared.CountEntry.{CountEntry}
 use Rattle.table_format.specs.File.{FileValue}
 use Rattle.vm_checker.specs.Accepts.{is_path_bus, IsPathTable, start_of, end_of, received_row, entry_events, file_events}

@@ -7,7 +7,7 @@ use Rattle.std.proofs.lemmas.List.Elements.{All-from_recursion, recursion_from_A
 use Rattle.air_core.specs.First.{first_from}
 use Rattle.air_core.specs.Sheet.{Sheet, RowHolds}
 use Rattle.air_core.proofs.FirstLemmas.{first_from-none, first_from-all}
-use Rattle.exec_path.proofs.Elements.{all_append}
+use Rattle.air_core.specs.ListLemmas.{all_append}
 
 pub broken_row : (sheet : Sheet) (row : List ℕ) (found : Option ℕ) → found ≡ first_from 0 (sheet.constraints row) → true ≡ is_some found → RowHolds sheet row → ⊥
 broken_row sheet row None is some holds = cc

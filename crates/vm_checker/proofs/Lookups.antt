@@ -14,11 +14,11 @@ use Rattle.air_core.specs.Sheet.{Sheet, row_events}
 use Rattle.air_core.specs.Balance.{BalancedOn, total, amount_at}
 use Rattle.air_core.specs.Laws.{Buses, MayBus}
 use Rattle.air_core.specs.Lookups.{GoodEvent, Good}
-use Rattle.air_core.specs.ListLemmas.{all_counted_some, on_bus-append}
+use Rattle.air_core.specs.ListLemmas.{all_counted_some, on_bus-append, all_append, all_weaker}
 use Rattle.air_core.specs.Step.{on_bus}
 use Rattle.air_core.proofs.BalanceLemmas.{test_of_there, member_of_total, total-cons}
-use Rattle.exec_path.specs.Orders.{Member}
-use Rattle.exec_path.proofs.Elements.{all_append, all_flat_map, all_from_members, all_at, all_weaker, member_left, member_right, member_piece}
+use Rattle.air_core.specs.Orders.{Member}
+use Rattle.air_core.proofs.ElementLemmas.{all_flat_map, all_from_members, all_at, member_left, member_right, member_piece}
 use Rattle.exec_path.specs.PathEvents.{connector_events, SameTotals}
 use Rattle.exec_path.proofs.Totals.{SameTotals-listed}
 use Rattle.table_format.specs.declared.CountEntry.{CountEntry}

@@ -16,12 +16,12 @@ use Rattle.air_core.specs.Sheet.{Sheet, RowHolds, IsRow, row_events, sent}
 use Rattle.air_core.specs.Balance.{BalancedOn}
 use Rattle.air_core.specs.Step.{Touched, SoundStep, IsMeaning, touched_events, on_bus, if_on}
 use Rattle.air_core.specs.Laws.{Buses, Fits, Sound}
-use Rattle.air_core.specs.ListLemmas.{on_bus_none}
-use Rattle.exec_path.specs.Orders.{Member}
+use Rattle.air_core.specs.ListLemmas.{on_bus_none, all_append, all_weaker}
+use Rattle.air_core.specs.Orders.{Member}
 use Rattle.exec_path.specs.Path.{TimedRow, AddsSlots, slot_sum}
 use Rattle.exec_path.specs.PathEvents.{SameTotals, path_events}
-use Rattle.exec_path.proofs.Counting.{weight-append}
-use Rattle.exec_path.proofs.Elements.{all_append, all_weaker, member_cases}
+use Rattle.air_core.proofs.Counting.{weight-append}
+use Rattle.air_core.proofs.ElementLemmas.{member_cases}
 use Rattle.exec_path.proofs.Totals.{SameTotals-listed, SameTotals-append}
 use Rattle.table_format.specs.File.{FileValue}
 use Rattle.vm_checker.specs.Accepts.{is_path_bus, IsPathTable, file_events, is_valid}

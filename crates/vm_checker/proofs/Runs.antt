@@ -13,7 +13,8 @@ use Rattle.air_core.specs.Balance.{BalancedOn}
 use Rattle.air_core.specs.Laws.{Buses, Fits, Sound}
 use Rattle.exec_path.specs.Path.{Point, TimedRow, IsPath, row_to, slot_sum}
 use Rattle.exec_path.specs.PathEvents.{SameTotals, is_bus, path_events, connector_events, execution_events}
-use Rattle.exec_path.proofs.Elements.{all_permuted, all_from_members, all_at, all_weaker}
+use Rattle.air_core.proofs.ElementLemmas.{all_permuted, all_from_members, all_at}
+use Rattle.air_core.specs.ListLemmas.{all_weaker}
 use Rattle.exec_path.proofs.PathLemmas.{checked_path}
 use Rattle.exec_path.proofs.Totals.{SameTotals-append}
 use Rattle.elf_image.specs.Loaded.{Loaded}

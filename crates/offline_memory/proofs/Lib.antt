@@ -1,0 +1,11 @@
+pub mod Pairs
+pub mod MemoryLemmas
+pub mod ByteLemmas
+pub mod PageLemmas
+pub mod AnyOrder
+pub mod EventLemmas
+pub mod BoundaryLemmas
+pub mod StepTimes
+pub mod SegmentLemmas
+pub mod WholeSegment
+pub mod BlockLemmas

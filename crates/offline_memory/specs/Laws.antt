@@ -1,0 +1,82 @@
+-- The laws of one sequential memory. Each is the contract of a function in src/laws.rt.
+use Rattle.std.specs.Prelude.{ℕ, ◌+◌, ◌<◌, ◌≤◌, List, flat_map, map}
+use Rattle.std.specs.List.{AllByRecursion}
+use Rattle.vm_field.specs.Field.{modulus}
+use Rattle.air_core.specs.declared.event.Event.{Event}
+use Rattle.air_core.specs.Balance.{Balanced, BalancedOn}
+use Rattle.vm_isa.specs.Blocks.{Blocks}
+use Rattle.air_core.specs.Orders.{Distinct}
+use Rattle.exec_path.specs.Path.{Point, slot_sum}
+use Rattle.exec_path.specs.PathEvents.{SameTotals, is_bus, execution_events}
+use Rattle.offline_memory.specs.declared.page.Touched.{Touched}
+use Rattle.offline_memory.specs.Memory.{Access, MemoryBalanced, InTime}
+use Rattle.offline_memory.specs.Bytes.{KeepBytes, HasBytes}
+use Rattle.offline_memory.specs.Pages.{blocks_of, DistinctLabels, PagesOfBytes, SequentialMemory, OrderedMemory, IsOldTime, MemoryOfPages, UntouchedStays}
+use Rattle.offline_memory.specs.MemoryEvents.{memory_events}
+use Rattle.offline_memory.specs.BlockMemory.{ArePages, HasOld, HasNew, StepsMeet, after_steps}
+use Rattle.offline_memory.specs.Segment.{RowStep, TableRow, RowSays, NotOn, OneRun, accesses_of, rows_of, steps_of, segment_events}
+
+-- Accesses in the order of time, with each old time before its own, that balance with pages of different
+-- labels are one sequential memory. No bound on times is needed.
+abbrev pub BalancedAccessesAreOneMemory : Type 0
+BalancedAccessesAreOneMemory = (pages : List Touched) (accesses : List Access) → DistinctLabels pages → InTime accesses
+    → MemoryBalanced (blocks_of pages) accesses → SequentialMemory pages accesses
+
+-- The same of accesses listed in any order, whose times differ.
+abbrev pub DistinctTimesAreOneMemory : Type 0
+DistinctTimesAreOneMemory = (pages : List Touched) (accesses : List Access) → DistinctLabels pages
+    → Distinct (map (λ (a : Access). a.time) accesses) → AllByRecursion (λ a. a.before < a.time) accesses
+    → MemoryBalanced (blocks_of pages) accesses → OrderedMemory pages accesses
+
+-- All words of such a memory are bytes, where the pages' old bytes are and each row keeps bytes.
+abbrev pub BalancedAccessesHaveBytes : Type 0
+BalancedAccessesHaveBytes = (pages : List Touched) (rows : List (List Access)) → DistinctLabels pages → PagesOfBytes pages
+    → InTime (flat_map (λ row. row) rows) → MemoryBalanced (blocks_of pages) (flat_map (λ row. row) rows)
+    → AllByRecursion KeepBytes rows → AllByRecursion HasBytes (flat_map (λ row. row) rows)
+
+-- Each old time is 0 or the time of an access. This needs no order of times.
+abbrev pub OldTimesAreAccessTimes : Type 0
+OldTimesAreAccessTimes = (pages : List Touched) (accesses : List Access) → MemoryBalanced (blocks_of pages) accesses
+    → AllByRecursion (λ a. IsOldTime accesses a.before) accesses
+
+-- At each block of each page the memory at the start has the old word at time 0, and the one at the end
+-- the new word at the block's final time.
+abbrev pub PagesAreMemories : Type 0
+PagesAreMemories = (pages : List Touched) → DistinctLabels pages → MemoryOfPages pages
+
+-- a block without accesses keeps its word, and its final time is 0
+abbrev pub UntouchedBlocksStay : Type 0
+UntouchedBlocksStay = (pages : List Touched) (accesses : List Access) → DistinctLabels pages → SequentialMemory pages accesses
+    → UntouchedStays pages accesses
+
+-- where the memory bus balances, and its sums are those of the pages and the accesses, the accesses balance
+abbrev pub BalancedEventsBalanceAccesses : Type 0
+BalancedEventsBalanceAccesses = (pages : List Touched) (accesses : List Access) (events : List Event) → BalancedOn (is_bus 2) events
+    → SameTotals 2 events (memory_events pages accesses) → MemoryBalanced (blocks_of pages) accesses
+
+-- Steps in time are one run, where the execution bus has the sums of the connector and their rows, the
+-- memory bus those of the pages and their accesses, and both balance. The start's time and all slots
+-- are within a bound below p, up to which the rows' tables keep times.
+abbrev pub BalancedStepsAreOneRun : Type 0
+BalancedStepsAreOneRun = (bound : ℕ) (start end : Point) (pages : List Touched) (rows : List TableRow) (events : List Event)
+    → AllByRecursion (RowSays bound) rows → DistinctLabels pages
+    → start.time + slot_sum (rows_of (steps_of rows)) ≤ bound → bound < modulus
+    → BalancedOn (is_bus 0) events → SameTotals 0 events (execution_events start end (rows_of (steps_of rows)))
+    → BalancedOn (is_bus 2) events → SameTotals 2 events (memory_events pages (accesses_of (steps_of rows)))
+    → OneRun start end pages (steps_of rows)
+
+-- The same from all events of a segment. The rows are those of any tables; the others are the events of
+-- the program and of lookup tables.
+abbrev pub BalancedSegmentIsOneRun : Type 0
+BalancedSegmentIsOneRun = (bound : ℕ) (start end : Point) (pages : List Touched) (rows : List TableRow) (others : List Event)
+    → AllByRecursion (RowSays bound) rows → NotOn 0 others → NotOn 2 others → DistinctLabels pages
+    → start.time + slot_sum (rows_of (steps_of rows)) ≤ bound → bound < modulus
+    → Balanced (segment_events start end pages rows others) → OneRun start end pages (steps_of rows)
+
+-- Such a run is one on the virtual machine's blocks, where these have the pages' old words, and the pages
+-- lie in their spaces: each step finds its old words in the blocks that the steps before it left, and the
+-- last blocks have the pages' new words, and elsewhere what the first ones had.
+abbrev pub RunsMeetBlocks : Type 0
+RunsMeetBlocks = (start end : Point) (pages : List Touched) (steps : List RowStep) (run : OneRun start end pages steps) (blocks : Blocks)
+    → DistinctLabels pages → ArePages pages → HasOld pages blocks
+    → StepsMeet blocks run.path × HasNew pages blocks (after_steps blocks run.path)

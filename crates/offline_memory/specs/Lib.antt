@@ -1,0 +1,7 @@
+pub mod Memory
+pub mod Bytes
+pub mod Pages
+pub mod MemoryEvents
+pub mod Segment
+pub mod BlockMemory
+pub mod Laws

@@ -1,0 +1,15 @@
+pub mod TreeLemmas
+pub mod WalkLemmas
+pub mod OpeningLemmas
+pub mod RootLemmas
+pub mod PathLemmas
+pub mod CompleteLemmas
+pub mod PartLemmas
+pub mod PartingLemmas
+pub mod PageLemmas
+pub mod SizeLemmas
+pub mod KeptLemmas
+pub mod PutLemmas
+pub mod PlaceLemmas
+pub mod StartLemmas
+pub mod BlockLemmas

@@ -1,0 +1,10 @@
+pub mod Tree
+pub mod Opening
+pub mod Path
+pub mod Chain
+pub mod Parts
+pub mod Kept
+pub mod MapBlocks
+pub mod Start
+pub mod Loading
+pub mod Laws

@@ -1,0 +1,19 @@
+//! The Merkle tree over pages of memory: its root, the opening of some of its pages, and the path of the
+//! page of public bytes.
+#![tactic(auto)]
+
+mod hash;
+pub mod laws;
+mod leaf;
+mod opening;
+mod path;
+mod start;
+#[cfg(test)]
+mod tests;
+mod tree;
+
+pub use leaf::Leaf;
+pub use offline_memory::{Digest, OutOfMemory, Touched};
+pub use opening::{OpeningError, roots_of, sibling_count};
+pub use path::{PUBLIC_LABEL, path_root};
+pub use tree::Tree;

@@ -1,0 +1,171 @@
+// The opening of pages: the roots over their old and over their new bytes.
+ghost use Rattle.std.specs.Prelude.{◌≡◌, ◌≢◌, ℕ, ◌+◌, ◌*◌, ◌^◌, ◌<◌, ◌≤◌, length, drop, slice_index, slice_index_or, replicate, IfOk, IfErr, IsOk, OnErr};
+ghost use Rattle.std.specs.List.Sorted.{IsStrictlyIncreasing};
+ghost use Rattle.page_tree.specs.Tree.{Leaves, root};
+ghost use Rattle.page_tree.specs.Opening.{AreLabels, needed, siblings_needed, walk};
+ghost use Rattle.page_tree.specs.Parts.{labels_of, old_at, new_at, IsPart, Parts, AreRoots, AreTreeRoots, IsOpenedBy, PagesOpenOrCollide};
+
+use crate::hash::{leaf_digest, pair_digest};
+use crate::{Digest, Touched};
+use thiserror::Error;
+
+/// Why siblings do not open a tree.
+#[derive(Clone, Copy, Debug, PartialEq, Eq, Error)]
+pub enum OpeningError {
+    /// There are not as many siblings as the opening needs.
+    #[error("the opening needs {needed} siblings and has {given}")]
+    SiblingsWrong { needed: u32, given: u32 },
+}
+
+// The first of the places from `from` to `to` whose label is `middle` or more, or `to`.
+pub fn parting(labels: &[u32], from: usize, to: usize, middle: u32) -> usize
+    requires rising { IsStrictlyIncreasing labels.now }
+    requires ordered { from ≤ to }
+    requires in_list { to ≤ length labels.now }
+    ensures { Parts labels.now from to middle result }
+{
+    from + labels[from..to].partition_point(|label| *label < middle)
+}
+
+// The number of siblings that an opening needs below a node.
+fn needed_below(labels: &[u32], level: u32, index: u32, from: usize, to: usize) -> u32
+    requires rising { IsStrictlyIncreasing labels.now }
+    requires in_tree { (index + 1) * 2 ^ level ≤ 2 ^ 25 }
+    requires small { level ≤ 25 }
+    requires part { IsPart labels.now level index from to }
+    ensures { result ≡ needed labels.now level index }
+{
+    if from == to {
+        return 1;
+    }
+    if level == 0 {
+        return 0;
+    }
+    let middle = (2 * index + 1) * 2u32.pow(level - 1);
+    let at = parting(labels, from, to, middle);
+    let left = needed_below(labels, level - 1, 2 * index, from, at);
+    let right = needed_below(labels, level - 1, 2 * index + 1, at, to);
+    left + right
+}
+
+/// How many siblings an opening of these labels needs.
+pub fn sibling_count(labels: &[u32]) -> u32
+    requires rising { IsStrictlyIncreasing labels.now }
+    requires in_tree { AreLabels labels.now }
+    ensures { result ≡ siblings_needed labels.now }
+{
+    needed_below(labels, 25, 0, 0, labels.len())
+}
+
+// The same as `parting`, at the labels of pages.
+fn page_parting(pages: &[Touched], from: usize, to: usize, middle: u32) -> usize
+    requires rising { IsStrictlyIncreasing (labels_of pages.now) }
+    requires ordered { from ≤ to }
+    requires in_list { to ≤ length pages.now }
+    ensures { Parts (labels_of pages.now) from to middle result }
+{
+    from + pages[from..to].partition_point(|page| page.label < middle)
+}
+
+// The digests of a node over old and over new bytes, and how many siblings have been taken.
+#[derive(Drop)]
+struct Roots {
+    old: Digest,
+    new: Digest,
+    taken: usize,
+}
+
+// The next sibling, or zeros where there is none.
+fn sibling_at(siblings: &[Digest], taken: usize) -> Digest
+    ensures { result ≡ slice_index_or siblings.now taken (replicate 32 0) }
+{
+    if taken < siblings.len() {
+        siblings[taken]
+    } else {
+        [0; 32]
+    }
+}
+
+// The walk below a node, over old and over new bytes at once.
+fn roots_below(
+    pages: &[Touched],
+    siblings: &[Digest],
+    level: u32,
+    index: u32,
+    from: usize,
+    to: usize,
+    taken: usize,
+) -> Roots
+    requires rising { IsStrictlyIncreasing (labels_of pages.now) }
+    requires in_tree { (index + 1) * 2 ^ level ≤ 2 ^ 25 }
+    requires small { level ≤ 25 }
+    requires in_list { to ≤ length pages.now }
+    requires part { IsPart (labels_of pages.now) level index from to }
+    requires few { taken ≤ index * 2 ^ level }
+    ensures taken { result.taken ≡ taken + needed (labels_of pages.now) level index }
+    ensures old { result.old ≡ (walk (labels_of pages.now) (old_at pages.now) level index (drop taken siblings.now)).digest }
+    ensures new { result.new ≡ (walk (labels_of pages.now) (new_at pages.now) level index (drop taken siblings.now)).digest }
+{
+    if from == to {
+        let digest = sibling_at(siblings, taken);
+        return Roots {
+            old: digest,
+            new: digest,
+            taken: taken + 1,
+        };
+    }
+    if level == 0 {
+        let page = &pages[from];
+        return Roots {
+            old: leaf_digest(&page.old),
+            new: leaf_digest(&page.new),
+            taken,
+        };
+    }
+    let middle = (2 * index + 1) * 2u32.pow(level - 1);
+    let at = page_parting(pages, from, to, middle);
+    let left = roots_below(pages, siblings, level - 1, 2 * index, from, at, taken);
+    let right = roots_below(
+        pages,
+        siblings,
+        level - 1,
+        2 * index + 1,
+        at,
+        to,
+        left.taken,
+    );
+    Roots {
+        old: pair_digest(&left.old, &right.old),
+        new: pair_digest(&left.new, &right.new),
+        taken: right.taken,
+    }
+}
+
+/// The root over the pages' old bytes and the root over their new bytes, where the siblings open both.
+pub fn roots_of(pages: &[Touched], siblings: &[Digest]) -> Result<(Digest, Digest), OpeningError>
+    requires rising { IsStrictlyIncreasing (labels_of pages.now) }
+    requires in_tree { AreLabels (labels_of pages.now) }
+    requires few { length siblings.now < 2 ^ 32 }
+    ensures roots { IfOk result (λ roots. AreRoots pages.now siblings.now roots.0 roots.1) }
+    ensures wrong { IfErr result (λ e. e ≡ OpeningError.SiblingsWrong (siblings_needed (labels_of pages.now)) (length siblings.now)) }
+    ensures number { OnErr result (length siblings.now ≢ siblings_needed (labels_of pages.now)) }
+
+    // The theorem: where the first root is that of a tree, its leaves are the pages' old bytes, and the
+    // second root is that of the tree with the new bytes; or two different nodes have one digest.
+    ensures opens { IfOk result (λ roots. (m : Leaves) → roots.0 ≡ root m → PagesOpenOrCollide m pages.now siblings.now roots.1) }
+
+    // And the other way: a tree's own siblings open it, and give its root and the root of the tree with the
+    // new bytes.
+    ensures complete { (m : Leaves) → IsOpenedBy m pages.now siblings.now → IsOk result }
+    ensures of_tree { IfOk result (λ roots. (m : Leaves) → IsOpenedBy m pages.now siblings.now → AreTreeRoots m pages.now roots.0 roots.1) }
+{
+    let roots = roots_below(pages, siblings, 25, 0, 0, pages.len(), 0);
+    if roots.taken != siblings.len() {
+        return Err(OpeningError::SiblingsWrong {
+            needed: roots.taken as u32,
+            given: siblings.len() as u32,
+        });
+    }
+    let Roots { old, new, .. } = roots;
+    Ok((old, new))
+}
