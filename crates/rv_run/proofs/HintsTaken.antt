@@ -27,7 +27,8 @@ record Takes (m next : Machine) (step : Machine → Next) : Type 0 where
   are : m.hints ≡ taken ++ next.hints
   others : (rest : List ℕ) → step (with_hints m (taken ++ rest)) ≡ goes (with_hints next rest)
 
-unless_parts : (m : Machine) (o : Option Cause) (p : Next) (next : Machine) → unless m o p ≡ goes next → (o ≡ None) × (p ≡ goes next)
+-- what a step that goes on says
+pub unless_parts : (m : Machine) (o : Option Cause) (p : Next) (next : Machine) → unless m o p ≡ goes next → (o ≡ None) × (p ≡ goes next)
 unless_parts m (Some cause) p next e = absurd (cc)
 unless_parts m None p next e = (refl, e)
 
@@ -51,12 +52,13 @@ branch_others : (m : Machine) (taken : Bool) (a b : ℕ) (rest : List ℕ) → (
 branch_others m true a b rest = refl
 branch_others m false a b rest = refl
 
-hint_parts : (m : Machine) (o : Option Cause) (short : Bool) → nat_lt (length m.hints) 4 ≡ short → or_hints_end m o ≡ None → (o ≡ None) × (4 ≤ length m.hints)
+-- and of a hint store
+pub hint_parts : (m : Machine) (o : Option Cause) (short : Bool) → nat_lt (length m.hints) 4 ≡ short → or_hints_end m o ≡ None → (o ≡ None) × (4 ≤ length m.hints)
 hint_parts m (Some cause) short e h = absurd (cc)
 hint_parts m None true e h = let no : Some HintsEnd ≡ None = rw e at h in absurd (cc)
 hint_parts m None false e h = (refl, grind (arith, nat_tests))
 
-hint_whole : (m : Machine) (o : Option Cause) → o ≡ None → 4 ≤ length m.hints → or_hints_end m o ≡ None
+pub hint_whole : (m : Machine) (o : Option Cause) → o ≡ None → 4 ≤ length m.hints → or_hints_end m o ≡ None
 hint_whole m o e h =
     let off : nat_lt (length m.hints) 4 ≡ false = grind (arith, nat_tests) in
     rw (e, off) refl

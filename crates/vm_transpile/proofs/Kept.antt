@@ -1,5 +1,5 @@
 -- A step keeps what a state of the machine always is.
-use Rattle.std.proofs.Common.{◌≡◌, ℕ, zero, suc, ◌+◌, ◌-◌, ◌%◌, ◌^◌, ◌<◌, ◌==◌, Bool, true, false, cond, ◌&&◌, nat_lt, List, [], ◌∷◌, ◌++◌, length, length-append, length-take, length-drop, get_or, set, take, drop, None, Some, Option, refl, sym, ap, ◌∙◌, subst, arith}
+use Rattle.std.proofs.Common.{◌≡◌, ℕ, zero, suc, ◌+◌, ◌-◌, ◌%◌, ◌^◌, ◌<◌, ◌==◌, Bool, true, false, cond, ◌&&◌, nat_lt, List, [], ◌∷◌, ◌++◌, length, length-append, length-take, length-drop, get_or, set, take, drop, None, refl, sym, ap, ◌∙◌, subst, arith}
 use Rattle.std.specs.Prelude.{nat_le, nat_eq, slice_index, if◌then◌else◌}
 use Rattle.std.proofs.lemmas.Bool.Decides.{nat_tests}
 use Rattle.std.proofs.lemmas.List.{length-set, get_or-set_same, get_or-set_other}
@@ -10,12 +10,12 @@ use Rattle.rv_decode.specs.declared.instr.StoreKind.{StoreKind}
 use Rattle.rv_decode.specs.declared.instr.StoreKind.TheVariants.{Sb, Sh, Sw}
 use Rattle.rv_decode.specs.Ranges.{HasFieldsInRange}
 use Rattle.vm_word.specs.Arithmetic.{word_sum}
-use Rattle.rv_run.specs.declared.outcome.Cause.{Cause}
 use Rattle.rv_run.specs.Machine.{Machine}
 use Rattle.rv_run.specs.Memory.{number_at, with_bytes, with_words}
-use Rattle.rv_run.specs.Step.{Next, goes, register, jumps, put, make_public, obstacle, performed, step_by, unless, store_width}
+use Rattle.rv_run.specs.Step.{goes, register, jumps, put, make_public, obstacle, performed, step_by, store_width}
 use Rattle.rv_run.specs.Step.{alu as alu_by, mul_div as mul_div_by, extended as extended_by}
 use Rattle.rv_run.specs.Step.{load_width, jalr_target, address_of, compressed, branch_taken}
+use Rattle.rv_run.proofs.HintsTaken.{unless_parts}
 use Rattle.vm_isa.specs.Words.{IsBytes}
 use Rattle.vm_transpile.specs.Same.{IsMachine}
 use Rattle.vm_transpile.proofs.Updates.{put_x0, registers_put}
@@ -160,13 +160,9 @@ module _ (m : Machine) (is : IsMachine m) where
   performed_kept (ShaBlock state block) next f free e =
       goes_same _ next (stored_kept (word_sum m.pc 4) (with_words m.memory (register m state) (compressed m state block)) m.hints (omega arith) (words_bytes m.memory (register m state) (compressed m state block) is.bytes) is.hints) e
 
-  unless_parts : (o : Option Cause) (p : Next) (next : Machine) → unless m o p ≡ goes next → (o ≡ None) × (p ≡ goes next)
-  unless_parts (Some cause) p next e = absurd (cc)
-  unless_parts None p next e = (refl, e)
-
   -- what a step that goes on says
   pub went_parts : (instr : Instr) (next : Machine) → step_by m instr ≡ goes next → (obstacle m instr ≡ None) × (performed m instr ≡ goes next)
-  went_parts instr next e = unless_parts (obstacle m instr) (performed m instr) next e
+  went_parts instr next e = unless_parts m (obstacle m instr) (performed m instr) next e
 
   pub step_kept : (instr : Instr) (next : Machine) → HasFieldsInRange instr → step_by m instr ≡ goes next → IsMachine next
   step_kept instr next f e = let parts = went_parts instr next e in performed_kept instr next f parts.0 parts.1

@@ -8,10 +8,11 @@ use Rattle.rv_decode.specs.declared.instr.StoreKind.TheVariants.{Sb}
 use Rattle.vm_word.specs.Word.{limbs_of, word_of_limbs}
 use Rattle.vm_word.specs.Arithmetic.{word_sum}
 use Rattle.rv_run.specs.declared.outcome.Cause.{Cause}
-use Rattle.rv_run.specs.declared.outcome.Cause.TheVariants.{HintsEnd, PublicIndex}
+use Rattle.rv_run.specs.declared.outcome.Cause.TheVariants.{PublicIndex}
 use Rattle.rv_run.specs.Machine.{Machine}
 use Rattle.rv_run.specs.Memory.{with_bytes}
-use Rattle.rv_run.specs.Step.{register, goes_on, store, use_hints, make_public, at_address, at_public, or_hints_end, store_width}
+use Rattle.rv_run.specs.Step.{register, goes_on, store, use_hints, make_public, at_address, at_public, store_width}
+use Rattle.rv_run.proofs.HintsTaken.{hint_parts, hint_whole}
 use Rattle.vm_isa.specs.declared.instr.VmInstr.{VmInstr}
 use Rattle.vm_isa.specs.Results.{width_of, with_low}
 use Rattle.vm_isa.specs.Means.{is_refused, bars_first, bars_second, imm_of, is_bad, new_at, next_of, place, places_by, word_at}
@@ -88,16 +89,6 @@ whole_block m a (x ∷ y ∷ z ∷ w ∷ []) e =
     let at : a + 0 ≡ a = omega arith in
     subst (λ (n : ℕ). memory_block (with_bytes m n bytes) a ≡ bytes) at (block-with m a 0 bytes)
 whole_block m a (x ∷ y ∷ z ∷ w ∷ u ∷ more) e = absurd (omega arith)
-
-hint_parts : (m : Machine) (o : Option Cause) (short : Bool) → nat_lt (length m.hints) 4 ≡ short → or_hints_end m o ≡ None → (o ≡ None) × (4 ≤ length m.hints)
-hint_parts m (Some cause) short e h = absurd (cc)
-hint_parts m None true e h = let no : Some HintsEnd ≡ None = rw e at h in absurd (cc)
-hint_parts m None false e h = (refl, grind (arith, nat_tests))
-
-hint_whole : (m : Machine) (o : Option Cause) → o ≡ None → 4 ≤ length m.hints → or_hints_end m o ≡ None
-hint_whole m o e h =
-    let off : nat_lt (length m.hints) 4 ≡ false = grind (arith, nat_tests) in
-    rw (e, off) refl
 
 public_by : (x y : Bool) → cond (x && y) None (let c : Option Cause = Some PublicIndex in c) ≡ None → (x ≡ true) × (y ≡ true)
 public_by true true h = (refl, refl)
