@@ -28,7 +28,6 @@ pub record IsLeastUnbalanced (events : List Event) (found : Unbalanced) : Type 0
   pub least : (bus : ℕ) (tuple : List ℕ) → IsBefore bus tuple found.bus found.tuple → IsEven bus tuple events
 
 -- of two such places, the one that stands first
-abbrev pub lesser_of : Option Unbalanced → Option Unbalanced → Option Unbalanced
-lesser_of None other = other
-lesser_of (Some a) None = Some a
-lesser_of (Some a) (Some b) = if is_lt (place_cmp b.bus b.tuple a.bus a.tuple) then Some b else Some a
+abbrev pub lesser_of : Option Unbalanced → Unbalanced → Unbalanced
+lesser_of None b = b
+lesser_of (Some a) b = if is_lt (place_cmp b.bus b.tuple a.bus a.tuple) then b else a

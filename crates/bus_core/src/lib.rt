@@ -1,17 +1,18 @@
 //! The balance of the buses: whether each tuple is sent as often as it is received.
 #![tactic(auto)]
 
-ghost use Rattle.std.specs.Prelude.{◌≡◌, ◌≤◌, ◌↔◌, List, [], ◌∷◌, OnOk, OnErr, IsNone, IfSome, IsTrue};
+ghost use Rattle.std.specs.Prelude.{◌≡◌, ◌+◌, ◌^◌, ◌<◌, ◌≤◌, ◌↔◌, List, [], ◌∷◌, Some, OnOk, OnErr, IsNone, IfSome, IsTrue};
 ghost use Rattle.air_core.specs.declared.event.Event.{Event as AnEvent};
-ghost use Rattle.air_core.specs.Balance.{Balanced, IsEven, total};
+ghost use Rattle.air_core.specs.Balance.{Balanced};
 ghost use Rattle.air_core.specs.Sink.{Handed};
-ghost use Rattle.bus_core.specs.Sums.{Holds, room_of};
-ghost use Rattle.bus_core.specs.Least.{IsBefore, IsUnbalanced, IsLeastUnbalanced, lesser_of};
+ghost use Rattle.bus_core.specs.Sums.{Holds, room_of, sum_on, add_on};
+ghost use Rattle.bus_core.specs.Least.{IsBefore, IsLeastUnbalanced, lesser_of};
 
 #[cfg(test)]
 mod tests;
 
 use air_core::{Event, EventSink, OutOfMemory, Side, Tuple};
+use indexmap::IndexMap;
 use std::alloc::Global;
 use std::marker::Model;
 
@@ -24,18 +25,35 @@ pub struct Unbalanced {
     pub received: u128,
 }
 
+/// A bus, and a tuple on it.
+#[derive(Clone, Copy, PartialEq, Eq, Hash)]
+struct Place {
+    bus: u8,
+    tuple: Tuple,
+}
+
+/// The counts of a place, summed as whole numbers.
+#[derive(Clone, Copy)]
+struct Sums {
+    sent: u128,
+    received: u128,
+}
+
 /// What is sent and received on the buses, as a sink of events.
 #[derive(Drop)]
 pub struct Balance {
-    events: Vec<Event>,
+    sums: IndexMap<Place, Sums>,
+    count: u128,
 }
 
 impl Model for Balance {
-    ghost use Rattle.bus_core.specs.Sums.{Kept};
+    ghost use Rattle.bus_core.specs.Sums.{Kept, IsBounded};
 
     ghost Value = { Kept };
 
-    ghost view = { λ balance. balance.events.items };
+    ghost view = { λ balance. record { sums = balance.sums.entries; count = balance.count } };
+
+    ghost invariant = { λ balance. IsBounded balance.sums.entries balance.count };
 }
 
 impl EventSink for Balance {
@@ -54,7 +72,8 @@ impl Balance {
         ensures { Holds result [] }
     {
         Balance {
-            events: Vec::new(alloc),
+            sums: IndexMap::new(alloc),
+            count: 0,
         }
     }
 
@@ -63,7 +82,16 @@ impl Balance {
         ensures ok { OnOk result (Handed Holds room_of self.old self.new (event.now ∷ [])) }
         ensures err { OnErr result (self.new ≡ self.old) }
     {
-        self.events.push(*event)?;
+        let place = Place {
+            bus: event.bus,
+            tuple: event.tuple,
+        };
+        let sums = self.sums.entry(place)?.or_insert(Sums {
+            sent: 0,
+            received: 0,
+        });
+        sums.add(event.side, event.count);
+        self.count += 1;
         Ok(())
     }
 
@@ -73,52 +101,40 @@ impl Balance {
         ensures least { IfSome result (λ found. (events : List AnEvent) → Holds self.now events → IsLeastUnbalanced events found) }
     {
         let mut least = None;
-        for event in &self.events {
-            let found = unbalanced_at(&self.events, event.bus, &event.tuple);
-            least = lesser(least, found);
+        for (place, sums) in &self.sums {
+            if sums.sent != sums.received {
+                let found = Unbalanced {
+                    bus: place.bus,
+                    tuple: place.tuple,
+                    sent: sums.sent,
+                    received: sums.received,
+                };
+                least = Some(lesser(least, found));
+            }
         }
         least
     }
 }
 
-// The sums at a bus and tuple, where they differ.
-fn unbalanced_at(events: &[Event], bus: u8, tuple: &Tuple) -> Option<Unbalanced>
-    ensures even { IsNone result ↔ IsEven bus tuple.now events.now }
-    ensures found { IfSome result (λ found. (found.bus ≡ bus) × (found.tuple ≡ tuple.now) × IsUnbalanced events.now found) }
-{
-    let sent = sum_at(events, Side::Send, bus, tuple);
-    let received = sum_at(events, Side::Receive, bus, tuple);
-    if sent == received {
-        return None;
-    }
-    Some(Unbalanced {
-        bus,
-        tuple: *tuple,
-        sent,
-        received,
-    })
-}
-
-fn sum_at(events: &[Event], side: Side, bus: u8, tuple: &Tuple) -> u128
-    ensures { result ≡ total side bus tuple.now events.now }
-{
-    let mut sum = 0;
-    for event in events {
-        if event.bus == bus && event.side == side && event.tuple == *tuple {
-            sum += event.count as u128;
+impl Sums {
+    fn add(&mut self, side: Side, count: u32)
+        requires { sum_on side self.old + count < 2 ^ 128 }
+        ensures { self.new ≡ add_on side count self.old }
+    {
+        match side {
+            Side::Send => self.sent += count as u128,
+            Side::Receive => self.received += count as u128,
         }
     }
-    sum
 }
 
 // The one that stands first.
-fn lesser(one: Option<Unbalanced>, other: Option<Unbalanced>) -> Option<Unbalanced>
-    ensures { result ≡ lesser_of one other }
+fn lesser(least: Option<Unbalanced>, found: Unbalanced) -> Unbalanced
+    ensures { result ≡ lesser_of least found }
 {
-    match (one, other) {
-        (Some(a), Some(b)) => Some(if stands_before(&b, &a) { b } else { a }),
-        (None, b) => b,
-        (a, None) => a,
+    match least {
+        Some(least) if !stands_before(&found, &least) => least,
+        _ => found,
     }
 }
 

@@ -143,6 +143,48 @@ fn least_of(alloc: Global, events: &[Event]) -> Result<Option<Unbalanced>, OutOf
     Ok(here.filter(|sums| sums.sent != sums.received))
 }
 
+/// How many places `many_events` has.
+const MANY: u32 = 2000;
+
+/// The sends of many places, and then their receives in another order. One count that is received is one short.
+fn many_events(alloc: Global) -> Result<Vec<Event>, OutOfMemory> {
+    let mut events = Vec::new(alloc);
+    for n in 0..MANY {
+        events.push(event_at(SEND, n, n + 1))?;
+    }
+    for n in 0..MANY {
+        let last = MANY - 1 - n;
+        let count = if last == 1234 { last } else { last + 1 };
+        events.push(event_at(RECEIVE, last, count))?;
+    }
+    Ok(events)
+}
+
+/// An event of the place with this number. 2003 is prime, so no two numbers below it have one place.
+fn event_at(side: Side, n: u32, count: u32) -> Event {
+    Event {
+        bus: (n % 4) as u8,
+        side,
+        tuple: Tuple::of(&[n.wrapping_mul(7919) % 2003, n % 5]),
+        count,
+    }
+}
+
+#[test]
+fn least_of_many_events(rt: HostRuntime) -> Result<(), Fail> {
+    let events = many_events(rt.alloc())?;
+    let found = balance_of(rt.alloc(), &events)?.least_unbalanced();
+    assert_eq!(rt; found, least_of(rt.alloc(), &events)?);
+    let short = Unbalanced {
+        bus: 2,
+        tuple: Tuple::of(&[1412, 4]),
+        sent: 1235,
+        received: 1234,
+    };
+    assert_eq!(rt; found, Some(short));
+    Ok(())
+}
+
 #[test]
 fn least_of_every_case(rt: HostRuntime) -> Result<(), Fail> {
     for (i, case) in CASES.iter().enumerate() {

@@ -1,33 +1,40 @@
-use Rattle.std.proofs.Common.{◌<◌, sym, List, length, arith, ap, subst}
-use Rattle.std.specs.Prelude.{IfSome}
-use Rattle.air_core.specs.declared.event.Event.{Event}
-use Rattle.bus_core.specs.Sums.{Holds}
-use Rattle.bus_core.specs.Least.{IsLeastUnbalanced}
-use Rattle.bus_core.proofs.Leasts.{FoundAt, least_more, found_at, none_found, least_found}
+use Rattle.std.proofs.Common.{◌≡◌, List, [], ◌∷◌, Option, Some, Bor, sym, ◌∙◌, ap, subst}
+use Rattle.std.specs.Map.{lookup}
+use Rattle.std.specs.Map.Iter.{deref_pair}
+use Rattle.std.proofs.lemmas.Map.Iter.{hash_map_turn, rest_more, rest_all}
+use Rattle.bus_core.specs.declared.Place.{Place}
+use Rattle.bus_core.specs.declared.Sums.{Sums}
+use Rattle.bus_core.specs.Sums.{Kept, is_place}
+use Rattle.bus_core.proofs.Leasts.{IsLeastBut, least_past, least_more, none_found, least_found, place_equiv}
 use Rattle.bus_core.proofs.Balance.least_unbalanced.Goals as goal
 
-pub loop-event-preserved : goal.loop-event-preserved
-loop-event-preserved c =
-    let events : List Event = c.self.inside.events.items in
-    let low : c.loop-event.event-index < length c.self.inside.events.items =
-    omega (arith, c.loop-event-test.true, ap length c.deref-event-items.ensures.value) in
-    rw c.lesser-least.ensures
-    (least_more c.self.inside.events.items c.loop-event.event-index c.event-item.result c.loop-event.least c.unbalanced_at-found.result low
-    (rw c.deref-event-items.ensures.value at c.event-item.is)
-    c.loop-event.invariant
-    (subst (λ (xs : List Event). FoundAt xs c.event-item.result.bus c.event-item.result.tuple c.unbalanced_at-found.result) c.deref.ensures.value
-    (found_at c.deref.result.now c.event-item.result.bus c.event-item.result.tuple c.unbalanced_at-found.result c.unbalanced_at-found.ensures.even c.unbalanced_at-found.ensures.found)))
+pub loop-place-preserved-then-sums : goal.loop-place-preserved-then-sums
+loop-place-preserved-then-sums c =
+    let x : Bor Place × Bor Sums = (c.in-Some.place, c.in-Some.sums) in
+    let gives = c.into_iter-place-iterator.ensures.into_iter_gives in
+    let at = (hash_map_turn deref_pair c.loop-place.yielded c.into_iter-place-iterator.result c.loop-place.place-iterator c.next.new.self c.next.result x c.loop-place.yielded_by c.in-Some.is c.next.ensures.steps place_equiv c.self.inside.sums gives.0 gives.4).1 in
+    let left = rest_more deref_pair c.loop-place.place-iterator c.next.new.self c.next.result x c.in-Some.is c.next.ensures.steps in
+    let kept = subst (λ (k : Kept). lookup (is_place x.0.now.bus x.0.now.tuple) k.sums ≡ Some x.1.now) c.self.view_is at in
+    rw c.lesser.ensures
+    (least_more c.args.self.now.sums (deref_pair x) c.next.new.self c.loop-place.least kept c.if-sums.true
+    (subst (λ (rest : List (Place × Sums)). IsLeastBut c.args.self.now.sums rest c.loop-place.least) left c.loop-place.invariant))
+
+pub loop-place-preserved : goal.loop-place-preserved
+loop-place-preserved c =
+    let x : Bor Place × Bor Sums = (c.in-Some.place, c.in-Some.sums) in
+    let gives = c.into_iter-place-iterator.ensures.into_iter_gives in
+    let at = (hash_map_turn deref_pair c.loop-place.yielded c.into_iter-place-iterator.result c.loop-place.place-iterator c.next.new.self c.next.result x c.loop-place.yielded_by c.in-Some.is c.next.ensures.steps place_equiv c.self.inside.sums gives.0 gives.4).1 in
+    let left = rest_more deref_pair c.loop-place.place-iterator c.next.new.self c.next.result x c.in-Some.is c.next.ensures.steps in
+    let kept = subst (λ (k : Kept). lookup (is_place x.0.now.bus x.0.now.tuple) k.sums ≡ Some x.1.now) c.self.view_is at in
+    least_past c.args.self.now.sums (deref_pair x) c.next.new.self c.loop-place.least kept c.if-sums.false
+    (subst (λ (rest : List (Place × Sums)). IsLeastBut c.args.self.now.sums rest c.loop-place.least) left c.loop-place.invariant)
 
 pub returns-clause-balanced : goal.returns-clause-balanced
 returns-clause-balanced c =
-    λ events holds.
-    none_found c.self.inside.events.items events c.loop-event.least c.loop-event.event-index
-    (omega (arith, c.loop-event-test.false, ap length c.deref-event-items.ensures.value)) c.loop-event.invariant
-    (subst (λ (xs : List Event). Holds xs events) (sym c.self.view_is) holds)
+    none_found c.args.self.now c.loop-place.least
+    (subst (λ (rest : List (Place × Sums)). IsLeastBut c.args.self.now.sums rest c.loop-place.least) c.in-None.ensures.steps.0 c.loop-place.invariant)
 
 pub returns-clause-least : goal.returns-clause-least
 returns-clause-least c =
-    let P : List Event → Type 0 = λ xs. IfSome c.loop-event.least (λ found. (events : List Event) → Holds xs events → IsLeastUnbalanced events found) in
-    subst P c.self.view_is
-    (least_found c.self.inside.events.items c.loop-event.least c.loop-event.event-index
-    (omega (arith, c.loop-event-test.false, ap length c.deref-event-items.ensures.value)) c.loop-event.invariant)
+    least_found c.args.self.now c.loop-place.least
+    (subst (λ (rest : List (Place × Sums)). IsLeastBut c.args.self.now.sums rest c.loop-place.least) c.in-None.ensures.steps.0 c.loop-place.invariant)

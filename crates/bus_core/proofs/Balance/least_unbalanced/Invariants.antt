@@ -1,7 +1,6 @@
-use Rattle.bus_core.proofs.Leasts.{IsLeastOf}
+use Rattle.bus_core.proofs.Leasts.{IsLeastBut}
 use Rattle.bus_core.proofs.Balance.least_unbalanced.Given as goal
 
--- so far it is the least of the places of these events
-abbrev pub invariant-loop-event : goal.invariant-loop-event
-invariant-loop-event l =
-    IsLeastOf l.self-inside.events.items l.event-index l.least
+-- so far it is the least of all places but those that are left
+abbrev pub invariant-loop-place : goal.invariant-loop-place
+invariant-loop-place l = IsLeastBut l.self.sums l.place-iterator l.least

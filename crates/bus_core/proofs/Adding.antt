@@ -1,0 +1,96 @@
+-- What an event more does to the sums.
+use Rattle.std.proofs.Common.{◌≡◌, ◌≢◌, ℕ, ◌+◌, ◌-◌, ◌*◌, ◌^◌, ◌<◌, ◌≤◌, Bool, true, false, cond, ◌&&◌, nat_eq, List, [], ◌∷◌, ◌++◌, length, Option, Some, None, unwrap_or, refl, sym, ◌∙◌, ap, subst, ⊎_elim, arith, length-append}
+use Rattle.std.specs.Cmp.Lexicographic.{pointwise, same_text}
+use Rattle.std.specs.Map.{lookup}
+use Rattle.std.specs.Option.{option_map_or}
+use Rattle.std.proofs.lemmas.Bool.{and_parts, eqb-true, cases_Bool}
+use Rattle.air_core.specs.declared.event.Event.{Event}
+use Rattle.air_core.specs.declared.event.Side.{Side}
+use Rattle.air_core.specs.declared.event.Side.TheVariants.{Send, Receive}
+use Rattle.air_core.specs.Balance.{same_side, is_at, amount_at, total}
+use Rattle.air_core.specs.Sink.{Handed}
+use Rattle.air_core.proofs.BalanceLemmas.{total-append, total-cons}
+use Rattle.bus_core.specs.declared.Place.{Place}
+use Rattle.bus_core.specs.declared.Sums.{Sums}
+use Rattle.bus_core.specs.Sums.{Kept, Holds, IsBounded, is_place, sum_on, add_on, sum_at, room_of}
+
+abbrev pub no_sums : Sums
+no_sums = record { sent = 0; received = 0 }
+
+sum_of_found : (side : Side) (found : Option Sums) → option_map_or (sum_on side) found 0 ≡ sum_on side (unwrap_or found no_sums)
+sum_of_found Send None = refl
+sum_of_found Receive None = refl
+sum_of_found Send (Some sums) = refl
+sum_of_found Receive (Some sums) = refl
+
+added : (side own : Side) (count : ℕ) (sums : Sums) → sum_on side (add_on own count sums) ≡ sum_on side sums + cond (same_side own side) count 0
+added Send Send count sums = refl
+added Receive Receive count sums = refl
+added Send Receive count sums = omega arith
+added Receive Send count sums = omega arith
+
+amount_by : (bus side tuple : Bool) (count : ℕ) → cond (bus && (side && tuple)) count 0 ≡ cond (bus && tuple) (cond side count 0) 0
+amount_by true true true count = refl
+amount_by true true false count = refl
+amount_by true false true count = refl
+amount_by true false false count = refl
+amount_by false side tuple count = refl
+
+pub read_at : {sums : Sums} {found at : Option Sums} → sums ≡ unwrap_or found no_sums → found ≡ at → sums ≡ unwrap_or at no_sums
+read_at read find = read ∙ ap (λ (o : Option Sums). unwrap_or o no_sums) find
+
+amount_small : (count : ℕ) (there : Bool) → count < 2 ^ 32 → cond there count 0 < 2 ^ 32
+amount_small count true small = small
+amount_small count false small = omega arith
+
+-- the sums that are kept at the place of an event
+module _ (old : List (Place × Sums)) (event : Event) (sums : Sums) (read : sums ≡ unwrap_or (lookup (is_place event.bus event.tuple) old) no_sums) where
+  sum_read : (side : Side) → sum_on side sums ≡ sum_at side event.bus event.tuple old
+  sum_read side = ap (sum_on side) read ∙ sym (sum_of_found side (lookup (is_place event.bus event.tuple) old))
+
+  -- no sum reaches 2 ^ 128
+  pub fits_more : (count : ℕ) → event.count < 2 ^ 32 → 1 ≤ 2 ^ 96 - count → IsBounded old count → sum_on event.side sums + event.count < 2 ^ 128
+  fits_more count small room before =
+      omega (arith, sum_read event.side, before.bounded event.side event.bus event.tuple, small, room)
+
+  -- with the event added to them
+  module _ (new : List (Place × Sums))
+      (update : (place : Place) → lookup (is_place place.bus place.tuple) new ≡ cond (is_place event.bus event.tuple place) (Some (add_on event.side event.count sums)) (lookup (is_place place.bus place.tuple) old)) where
+    sum_by : (side : Side) (bus : ℕ) (tuple : List ℕ) (here : Bool) → is_place event.bus event.tuple (record { bus = bus; tuple = tuple }) ≡ here
+        → option_map_or (sum_on side) (cond here (Some (add_on event.side event.count sums)) (lookup (is_place bus tuple) old)) 0
+        ≡ sum_at side bus tuple old + cond here (cond (same_side event.side side) event.count 0) 0
+    sum_by side bus tuple true is =
+        let parts = and_parts (nat_eq event.bus bus) (pointwise nat_eq event.tuple tuple) is in
+        let before = sum_read side
+        ∙ ap (λ (b : ℕ). sum_at side b event.tuple old) (eqb-true event.bus bus parts.0)
+        ∙ ap (λ (t : List ℕ). sum_at side bus t old) (same_text event.tuple tuple (sym parts.1)) in
+        omega (arith, added side event.side event.count sums, before)
+    sum_by side bus tuple false is = omega arith
+
+    -- each sum is more by what the event adds there
+    sum_more : (side : Side) (bus : ℕ) (tuple : List ℕ) → sum_at side bus tuple new ≡ sum_at side bus tuple old + amount_at side bus tuple event
+    sum_more side bus tuple =
+        let place : Place = record { bus = bus; tuple = tuple } in
+        ap (λ (o : Option Sums). option_map_or (sum_on side) o 0) (update place)
+        ∙ sum_by side bus tuple (is_place event.bus event.tuple place) refl
+        ∙ ap (λ (n : ℕ). sum_at side bus tuple old + n) (sym (amount_by (nat_eq event.bus bus) (same_side event.side side) (pointwise nat_eq event.tuple tuple) event.count))
+
+    pub bounded_more : (count : ℕ) → event.count < 2 ^ 32 → IsBounded old count → IsBounded new (count + 1)
+    bounded_more count small before = record {
+      bounded = λ side bus tuple. omega (arith, sum_more side bus tuple, before.bounded side bus tuple, amount_small event.count (is_at side bus tuple event) small);
+    }
+
+    pub held_more : (count : ℕ) → 1 ≤ 2 ^ 96 - count → Handed Holds room_of (record { sums = old; count = count }) (record { sums = new; count = count + 1 }) (event ∷ [])
+    held_more count room = record {
+      lists = λ list holds. record {
+        sums = λ side bus tuple. omega (arith, sum_more side bus tuple, holds.sums side bus tuple, total-append side bus tuple list (event ∷ []), total-cons side bus tuple event []);
+        count = omega (arith, holds.count, length-append list (event ∷ []));
+      };
+      used = omega (arith, room);
+    }
+
+pub bounded_same : {old new : List (Place × Sums)} {count : ℕ} → IsBounded old count → old ≡ new → IsBounded new count
+bounded_same {count = count} h same = subst (λ (es : List (Place × Sums)). IsBounded es count) same h
+
+pub handed_same : {kept : Kept} {old new : List (Place × Sums)} {count : ℕ} {events : List Event} → Handed Holds room_of kept (record { sums = old; count = count }) events → old ≡ new → Handed Holds room_of kept (record { sums = new; count = count }) events
+handed_same {kept} {count = count} {events = events} h same = subst (λ (es : List (Place × Sums)). Handed Holds room_of kept (record { sums = es; count = count }) events) same h
