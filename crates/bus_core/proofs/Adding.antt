@@ -1,13 +1,13 @@
 -- What an event more does to the sums.
-use Rattle.std.proofs.Common.{◌≡◌, ◌≢◌, ℕ, ◌+◌, ◌-◌, ◌*◌, ◌^◌, ◌<◌, ◌≤◌, Bool, true, false, cond, ◌&&◌, nat_eq, List, [], ◌∷◌, ◌++◌, length, Option, Some, None, unwrap_or, refl, sym, ◌∙◌, ap, subst, ⊎_elim, arith, length-append}
+use Rattle.std.proofs.Common.{◌≡◌, ℕ, ◌+◌, ◌-◌, ◌^◌, ◌<◌, ◌≤◌, Bool, true, false, cond, ◌&&◌, nat_eq, List, [], ◌∷◌, Option, Some, None, unwrap_or, refl, sym, ◌∙◌, ap, subst, arith, length-append}
 use Rattle.std.specs.Cmp.Lexicographic.{pointwise, same_text}
 use Rattle.std.specs.Map.{lookup}
 use Rattle.std.specs.Option.{option_map_or}
-use Rattle.std.proofs.lemmas.Bool.{and_parts, eqb-true, cases_Bool}
+use Rattle.std.proofs.lemmas.Bool.{and_parts, eqb-true}
 use Rattle.air_core.specs.declared.event.Event.{Event}
 use Rattle.air_core.specs.declared.event.Side.{Side}
 use Rattle.air_core.specs.declared.event.Side.TheVariants.{Send, Receive}
-use Rattle.air_core.specs.Balance.{same_side, is_at, amount_at, total}
+use Rattle.air_core.specs.Balance.{same_side, is_at, amount_at}
 use Rattle.air_core.specs.Sink.{Handed}
 use Rattle.air_core.proofs.BalanceLemmas.{total-append, total-cons}
 use Rattle.bus_core.specs.declared.Place.{Place}

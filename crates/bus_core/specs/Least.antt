@@ -27,7 +27,7 @@ pub record IsLeastUnbalanced (events : List Event) (found : Unbalanced) : Type 0
   pub unbalanced : IsUnbalanced events found
   pub least : (bus : ℕ) (tuple : List ℕ) → IsBefore bus tuple found.bus found.tuple → IsEven bus tuple events
 
--- of two such places, the one that stands first
+-- of two such places the one that stands first, and the second where there is no first
 abbrev pub lesser_of : Option Unbalanced → Unbalanced → Unbalanced
 lesser_of None b = b
 lesser_of (Some a) b = if is_lt (place_cmp b.bus b.tuple a.bus a.tuple) then b else a

@@ -1,4 +1,4 @@
-use Rattle.std.proofs.Common.{◌≡◌, ◌∙◌, ap, unwrap_or, Option, refl, rules, arith, ◌<◌, ◌≤◌, ◌^◌, ◌-◌, subst, sym, List, [], ◌∷◌, ◌+◌}
+use Rattle.std.proofs.Common.{rules, ◌≤◌, subst, sym}
 use Rattle.bus_core.specs.Sums.{Kept, room_of}
 use Rattle.bus_core.proofs.Adding.{read_at, bounded_more, bounded_same, held_more, handed_same, fits_more}
 use Rattle.bus_core.proofs.Balance.add.Goals as goal

@@ -1,7 +1,7 @@
-use Rattle.std.proofs.Common.{◌≡◌, List, [], ◌∷◌, Option, Some, Bor, sym, ◌∙◌, ap, subst}
+use Rattle.std.proofs.Common.{◌≡◌, List, Some, Bor, subst}
 use Rattle.std.specs.Map.{lookup}
 use Rattle.std.specs.Map.Iter.{deref_pair}
-use Rattle.std.proofs.lemmas.Map.Iter.{hash_map_turn, rest_more, rest_all}
+use Rattle.std.proofs.lemmas.Map.Iter.{hash_map_turn, rest_more}
 use Rattle.bus_core.specs.declared.Place.{Place}
 use Rattle.bus_core.specs.declared.Sums.{Sums}
 use Rattle.bus_core.specs.Sums.{Kept, is_place}
