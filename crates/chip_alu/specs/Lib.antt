@@ -1,0 +1,6 @@
+pub mod Alu
+pub mod Results
+pub mod AluSound
+pub mod AluQuiet
+pub mod Filled
+pub mod AluComplete

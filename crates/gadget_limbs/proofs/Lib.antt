@@ -1,0 +1,5 @@
+pub mod LimbsLaws
+pub mod SumLemmas
+pub mod SumLaw
+pub mod SumHolds
+pub mod BitLaws

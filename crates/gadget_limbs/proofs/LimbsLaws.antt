@@ -1,0 +1,57 @@
+-- Words of a row, and the numbers that they make.
+use Rattle.std.proofs.Common.{◌≡◌, ℕ, ◌^◌, ◌<◌, List, [], ◌∷◌, length, refl, arith, lit<, slice_index, zero, suc}
+use Rattle.std.proofs.Math.Nat.{pow-suc}
+use Rattle.vm_word.specs.Word.{word_of_limbs, limbs_of}
+use Rattle.vm_word.proofs.WordLemmas.{word_of_limbs-lt, limbs_of-word_of_limbs}
+use Rattle.vm_isa.specs.Words.{IsBytes, IsWord}
+use Rattle.vm_isa.proofs.InstrLaws.{four}
+use Rattle.air_core.specs.Sheet.{AllBelow}
+use Rattle.air_core.specs.ListLemmas.{below_at, all_weaker}
+use Rattle.gadget_limbs.specs.declared.limbs.Limbs.{Limbs}
+use Rattle.gadget_limbs.specs.Limbs.{list_of, limbs_from, limbs_at, number_of, LimbsBelow}
+
+pub length-list_of : (w : Limbs) → length (list_of w) ≡ 4
+unfolding list_of
+length-list_of w = refl
+
+-- the limbs of four numbers are these numbers
+pub list_of-from : (xs : List ℕ) → length xs ≡ 4 → list_of (limbs_from xs) ≡ xs
+unfolding list_of limbs_from
+list_of-from xs h = four xs h
+
+-- columns of a row of elements are elements
+pub limbs_at_below : (row : List ℕ) (at : ℕ) → AllBelow row → LimbsBelow (limbs_at row at)
+unfolding limbs_at
+limbs_at_below row at h = record { x0 = below_at row at h; x1 = below_at row _ h; x2 = below_at row _ h; x3 = below_at row _ h }
+
+-- and so are bytes
+pub bytes_below : (xs : List ℕ) → IsBytes xs → AllBelow xs
+bytes_below xs h = all_weaker (λ x. x < 256) (λ x. x < 2013265921) (λ x b. omega arith) xs h
+
+pub byte_at : (xs : List ℕ) (i : ℕ) → IsBytes xs → slice_index xs i < 256
+byte_at [] i h = lit< tt
+byte_at (x ∷ xs) zero h = h.0
+byte_at (x ∷ xs) (suc i) h = byte_at xs i h.1
+
+-- limbs make a number below 256 to their count
+pub number_of_below : (xs : List ℕ) → IsBytes xs → number_of xs < 256 ^ length xs
+number_of_below [] b = omega arith
+number_of_below (x ∷ xs) b = rw pow-suc (omega (arith, b.0, number_of_below xs b.1))
+
+-- four limbs make a word
+pub number_is_word : (a b c d : ℕ) → number_of (a ∷ b ∷ c ∷ d ∷ []) ≡ word_of_limbs (a ∷ b ∷ c ∷ d ∷ [])
+number_is_word a b c d = omega arith
+
+pub list_is_word : (w : Limbs) → number_of (list_of w) ≡ word_of_limbs (list_of w)
+unfolding list_of
+list_is_word w = number_is_word w.x0 w.x1 w.x2 w.x3
+
+pub word_below : (w : Limbs) → IsBytes (list_of w) → word_of_limbs (list_of w) < 2 ^ 32
+word_below w h = word_of_limbs-lt (list_of w) (λ i low. byte_at (list_of w) i h)
+
+-- four bytes are the limbs of their word
+pub limbs_of-word : (xs : List ℕ) → IsWord xs → limbs_of (word_of_limbs xs) ≡ xs
+limbs_of-word xs h = limbs_of-word_of_limbs xs h.four (λ i low. byte_at xs i h.bytes)
+
+pub limbs_word : (n : ℕ) → IsWord (limbs_of n)
+limbs_word n = record { four = refl; bytes = (omega arith, (omega arith, (omega arith, (omega arith, tt)))) }

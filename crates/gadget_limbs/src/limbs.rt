@@ -1,0 +1,57 @@
+//! Words of a row.
+
+ghost use Rattle.std.specs.Prelude.{◌≡◌, ◌+◌, ◌≤◌, length};
+ghost use Rattle.gadget_limbs.specs.Limbs.{limbs_at, list_of, limbs_from};
+
+use vm_field::Fe;
+
+/// The four limbs of a word as columns, lowest first.
+#[derive(Clone, Copy, Debug)]
+pub struct Limbs {
+    pub x0: Fe,
+    pub x1: Fe,
+    pub x2: Fe,
+    pub x3: Fe,
+}
+
+impl Limbs {
+    pub const ZERO: Limbs = Limbs {
+        x0: Fe::ZERO,
+        x1: Fe::ZERO,
+        x2: Fe::ZERO,
+        x3: Fe::ZERO,
+    };
+
+    /// The four columns from a place on.
+    #[tactic(auto, unfolding(crate::specs::Limbs::limbs_at))]
+    pub fn read(row: &[Fe], at: usize) -> Limbs
+        requires { at + 4 ≤ length row.now }
+        ensures { result ≡ limbs_at row.now at }
+    {
+        Limbs {
+            x0: row[at],
+            x1: row[at + 1],
+            x2: row[at + 2],
+            x3: row[at + 3],
+        }
+    }
+
+    #[tactic(auto, unfolding(crate::specs::Limbs::list_of))]
+    pub fn array(&self) -> [Fe; 4]
+        ensures { result ≡ list_of self.now }
+    {
+        [self.x0, self.x1, self.x2, self.x3]
+    }
+
+    #[tactic(auto, unfolding(crate::specs::Limbs::limbs_from))]
+    pub fn of_bytes(bytes: &[u8; 4]) -> Limbs
+        ensures { result ≡ limbs_from bytes.now }
+    {
+        Limbs {
+            x0: Fe::of_u16(bytes[0] as u16),
+            x1: Fe::of_u16(bytes[1] as u16),
+            x2: Fe::of_u16(bytes[2] as u16),
+            x3: Fe::of_u16(bytes[3] as u16),
+        }
+    }
+}

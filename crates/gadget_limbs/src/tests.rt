@@ -1,0 +1,42 @@
+//! Sums of four and of eight limbs.
+
+use crate::first_broken;
+use std::test::Fail;
+use vm_field::Fe;
+
+fn elements<const N: usize>(numbers: &[u16; N]) -> [Fe; N] {
+    let mut limbs = [Fe::ZERO; N];
+    for i in 0..N {
+        limbs[i] = Fe::of_u16(numbers[i]);
+    }
+    limbs
+}
+
+/// 255 + 1 with its carry and without, FFFFFFFF + 1, and the same over eight limbs, under the gates 1 and 0.
+#[test]
+fn sums(rt: HostRuntime) -> Result<(), Fail> {
+    let x = elements(&[255, 0, 0, 0]);
+    let one = elements(&[1, 0, 0, 0]);
+    let most = elements(&[255, 255, 255, 255]);
+    let zero = [Fe::ZERO; 4];
+    assert_eq!(rt;
+        first_broken(10, Fe::ONE, &x, &one, &elements(&[0, 1, 0, 0])),
+        None
+    );
+    assert_eq!(rt; first_broken(10, Fe::ONE, &x, &one, &zero), Some(11));
+    assert_eq!(rt; first_broken(10, Fe::ZERO, &x, &one, &zero), None);
+    assert_eq!(rt; first_broken(10, Fe::ONE, &most, &one, &zero), None);
+    assert_eq!(rt;
+        first_broken(10, Fe::ONE, &x, &one, &elements(&[1, 1, 0, 0])),
+        Some(10)
+    );
+    let long = elements(&[255, 255, 255, 255, 0, 0, 0, 0]);
+    let small = elements(&[1, 0, 0, 0, 0, 0, 0, 0]);
+    let sum = elements(&[0, 0, 0, 0, 1, 0, 0, 0]);
+    assert_eq!(rt; first_broken(0, Fe::ONE, &long, &small, &sum), None);
+    assert_eq!(rt;
+        first_broken(0, Fe::ONE, &long, &small, &[Fe::ZERO; 8]),
+        Some(4)
+    );
+    Ok(())
+}

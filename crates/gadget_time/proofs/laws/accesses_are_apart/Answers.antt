@@ -1,0 +1,5 @@
+use Rattle.gadget_time.proofs.ToldLaws.{times_apart}
+use Rattle.gadget_time.proofs.laws.accesses_are_apart.Goals as goal
+
+pub returns : goal.returns
+returns c = times_apart

@@ -1,0 +1,10 @@
+//! What a row of an instruction table says: its path, and its accesses, each after the block's access
+//! before it.
+#![tactic(auto)]
+
+pub mod laws;
+#[cfg(test)]
+mod tests;
+mod touch;
+
+pub use touch::{Gap, Touch, gap_between, touch_constraint, touch_events};
