@@ -5,3 +5,5 @@ pub mod Rows
 pub mod Steps
 pub mod Orders
 pub mod Segments
+pub mod Start
+pub mod Whole
