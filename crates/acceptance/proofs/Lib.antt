@@ -1,6 +1,7 @@
 pub mod EachRow
 pub mod Lookups
 pub mod Row
+pub mod Hints
 pub mod Rows
 pub mod Steps
 pub mod Orders

@@ -1,5 +1,5 @@
 -- One row: its step, its time and its hint.
-use Rattle.std.proofs.Common.{◌≡◌, ◌≢◌, ℕ, ◌+◌, ◌<◌, ◌≤◌, Bool, true, false, cond, ◌&&◌, ◌||◌, nat_eq, List, [], ◌∷◌, ◌++◌, length, slice_index, refl, sym, ap, ◌∙◌, subst, arith, inl, inr, Contains, length-append}
+use Rattle.std.proofs.Common.{◌≡◌, ◌≢◌, ℕ, suc, ◌+◌, ◌<◌, ◌≤◌, Bool, true, false, cond, ◌&&◌, ◌||◌, nat_eq, List, [], ◌∷◌, ◌++◌, length, slice_index, refl, sym, ap, ◌∙◌, subst, arith, inl, inr, Contains, length-append}
 use Rattle.std.specs.Prelude.{flat_map, if◌then◌else◌, MatchBool}
 use Rattle.std.specs.List.{AllByRecursion, list_any}
 use Rattle.std.proofs.lemmas.Bool.{ne_eqb, eq-eqb, eqb-true}
@@ -17,7 +17,7 @@ use Rattle.air_core.specs.Sheet.{sent, received}
 use Rattle.air_core.specs.Step.{Touched, touched_events, Rising, on_bus, if_on, IsStep}
 use Rattle.air_core.specs.System.{time_if, times_of}
 use Rattle.air_core.specs.ListLemmas.{all_weaker}
-use Rattle.air_core.proofs.ElementLemmas.{all_at, all_from_members, member_left, member_right, member_flat_map}
+use Rattle.air_core.proofs.ElementLemmas.{all_at, all_from_members, member_left, member_right, member_flat_map, member_piece, member_cases}
 use Rattle.offline_memory.specs.Segment.{RowStep}
 use Rattle.acceptance.specs.Events.{is_valid}
 
@@ -34,6 +34,24 @@ contained_on_bus e events h =
     All-contains (λ (x : Event). Member x (on_bus x.bus events)) events e
     (All-from_recursion (λ (x : Event). Member x (on_bus x.bus events)) events (all_from_members (λ (x : Event). Member x (on_bus x.bus events)) events (λ x k. member_on_bus x.bus x events k refl)))
     h
+
+member_if : (y e : Event) (b : Bool) → Member y (cond b (e ∷ []) []) → e ≡ y
+member_if y e true (inl same) = same
+member_if y e true (inr h) = elim h [ ]
+member_if y e false h = elim h [ ]
+
+pub on_bus_member : (bus : ℕ) (y : Event) (events : List Event) → Member y (on_bus bus events) → Member y events
+on_bus_member bus y [] h = h
+on_bus_member bus y (e ∷ es) h =
+    elim (member_cases y (if_on bus e) (on_bus bus es) h) [
+      | inl a ↦ inl (member_if y e (nat_eq e.bus bus) a)
+      | inr b ↦ inr (on_bus_member bus y es b)
+    ]
+
+contains_member : (e : Event) (events : List Event) → Member e events → Contains events e
+contains_member e [] h = elim h [ ]
+contains_member e (x ∷ xs) (inl same) = (0, omega arith, same)
+contains_member e (x ∷ xs) (inr h) = let rest = contains_member e xs h in (suc rest.0, omega (arith, rest.1), rest.2)
 
 -- what a test of events on one bus finds
 module _ (bus : ℕ) (test : Event → Bool) (only : (e : Event) → nat_eq e.bus bus ≡ false → test e ≡ false) where
@@ -78,6 +96,9 @@ silent_times (e ∷ es) h = rw (ne_eqb e.bus 0 (λ z. omega (arith, h.0, z))) (s
 pub silent_sends : (op : ℕ) (events : List Event) → IsSilent events → sends_program op events ≡ false
 silent_sends op [] h = refl
 silent_sends op (e ∷ es) h = rw (ne_eqb e.bus 1 (λ z. omega (arith, h.0, z))) (silent_sends op es h.1)
+
+pub silent_is_no_hint : (events : List Event) → IsSilent events → NoHint events
+silent_is_no_hint events silent = record { hint = silent_sends 37 events silent; next = silent_sends 42 events silent }
 
 -- so it is no hint
 pub silent_no_hint : (h : HintWord) (events : List Event) → IsSilent events → IsHint h events → ⊥
@@ -204,3 +225,35 @@ module _ (slots bits : ℕ) (instr : VmInstr) (time next : ℕ) (accesses : List
           let word : slot_word accesses ≡ h.word = hint_word h.word (subst (λ (t : ℕ). Writes t h.word events) at writes) in
           let made : hint_made h.time h.word h.next ≡ hint_made time (slot_word accesses) false = rw (at, word, n) refl in
           (sym (sends 37) ∙ opcode, sym (hint_made-fields h) ∙ made ∙ hint_made-fields (record { time = time; word = slot_word accesses; next = false }))
+
+  -- ---- that a valid row is a hint, or none
+
+  on_path_bus : (e : Event) → Member e (on_bus 0 events) → Contains events e
+  on_path_bus e h = contains_member e events (on_bus_member 0 e events h)
+
+  begins : BeginsAt time events
+  begins = record {
+    pc = instr.pc;
+    received_at = on_path_bus (received 0 1 (instr.pc ∷ time ∷ [])) (subst (Member (received 0 1 (instr.pc ∷ time ∷ []))) (sym step.spoken.path) (inl refl));
+  }
+
+  writes_by : (a : Touched) → Member a accesses → a.space ≡ 2 → a.slot ≡ 1 → Writes time a.new events
+  writes_by a h space slot =
+      let event = sent 2 1 (a.space ∷ a.pointer ∷ (a.new ++ (field_add time a.slot ∷ []))) in
+      let there : Member event (on_bus 2 events) = subst (Member event) (sym step.spoken.memory) (member_piece (touched_events time) a event accesses h (inr (inl refl))) in
+      let contained : Contains events event = contains_member event events (on_bus_member 2 event events there) in
+      record {
+        pointer = a.pointer;
+        written = subst (λ (n : ℕ). Contains events (sent 2 1 (2 ∷ a.pointer ∷ (a.new ++ (field_add time n ∷ []))))) slot
+            (subst (λ (n : ℕ). Contains events (sent 2 1 (n ∷ a.pointer ∷ (a.new ++ (field_add time a.slot ∷ []))))) space contained);
+      }
+
+  pub is_no_hint : nat_eq instr.op 37 ≡ false → NoHint events
+  is_no_hint other = record { hint = sends 37 ∙ other; next = sends 42 ∙ ne_eqb instr.op 42 (no_opcode instr step.in_range) }
+
+  pub is_hint : nat_eq instr.op 37 ≡ true → (a : Touched) → Member a accesses → a.space ≡ 2 → a.slot ≡ 1 → IsHint (record { time = time; word = slot_word accesses; next = false }) events
+  is_hint op a h space slot = record {
+    opcode = sends 37 ∙ op;
+    time = begins;
+    word = subst (λ (w : List ℕ). Writes time w events) (sym (slot_word_of 0 slots a accesses step.rising h slot)) (writes_by a h space slot);
+  }

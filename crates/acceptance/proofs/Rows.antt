@@ -2,7 +2,7 @@
 use Rattle.std.proofs.Common.{◌≡◌, ◌≢◌, ◌⊎◌, ℕ, ◌+◌, ◌^◌, ◌<◌, ◌≤◌, Bool, true, false, cond, nat_eq, List, [], ◌∷◌, ◌++◌, length, map, refl, sym, ap, ◌∙◌, subst, arith, inl, inr, ⊎_elim, Contains, pow_mono, Some, None}
 use Rattle.std.specs.Prelude.{flat_map, All, count_by, if◌then◌else◌}
 use Rattle.std.specs.List.{AllByRecursion}
-use Rattle.std.proofs.lemmas.Bool.{cases_lt}
+use Rattle.std.proofs.lemmas.Bool.{cases_lt, eqb-true}
 use Rattle.std.proofs.lemmas.Grind.{flat_map-append}
 use Rattle.std.proofs.lemmas.List.Elements.{All-contains}
 use Rattle.std.proofs.lemmas.List.Sums.{sum_by-cons}
@@ -28,8 +28,9 @@ use Rattle.offline_memory.specs.Segment.{RowStep, TableRow, RowSays, rows_of, st
 use Rattle.acceptance.specs.Events.{is_valid}
 use Rattle.acceptance.specs.Spelled.{AreHints}
 use Rattle.acceptance.proofs.EachRow.{SheetRow, said, slots_of_row}
+use Rattle.acceptance.proofs.Hints.{hint_access}
 use Rattle.acceptance.proofs.Lookups.{Looked, good_row}
-use Rattle.acceptance.proofs.Row.{IsSilent, silent_invalid, silent_times, silent_no_hint, step_hint, slot_word, step_valid, step_times, no_hint_step, hint_step}
+use Rattle.acceptance.proofs.Row.{IsSilent, silent_invalid, silent_times, silent_no_hint, step_hint, slot_word, step_valid, step_times, no_hint_step, hint_step, on_bus_member, silent_is_no_hint, is_no_hint, is_hint}
 
 -- A valid row: a step in time, and its instruction is a row of the program.
 pub record IsValidRow (program : List VmInstr) (sheet : Sheet) (row : List ℕ) : Type 0 where
@@ -61,19 +62,6 @@ silent_or_owns private sheet (e ∷ es) own =
     (λ (owns : OwnsSome sheet). inr owns)
     (silent_or_owns private sheet es own.1))
     (cases_lt e.bus 3)
-
-member_if : (y e : Event) (b : Bool) → Member y (cond b (e ∷ []) []) → e ≡ y
-member_if y e true (inl same) = same
-member_if y e true (inr h) = elim h [ ]
-member_if y e false h = elim h [ ]
-
-on_bus_member : (bus : ℕ) (y : Event) (events : List Event) → Member y (on_bus bus events) → Member y events
-on_bus_member bus y [] h = h
-on_bus_member bus y (e ∷ es) h =
-    elim (member_cases y (if_on bus e) (on_bus bus es) h) [
-      | inl a ↦ inl (member_if y e (nat_eq e.bus bus) a)
-      | inr b ↦ inr (on_bus_member bus y es b)
-    ]
 
 in_program : (program : List VmInstr) (instr : VmInstr) (events : List Event) → All InRange program → InRange instr → AllByRecursion (Looked program) events → on_bus 1 events ≡ sent 1 1 (numbers_of instr) ∷ [] → Contains program instr
 in_program program instr events ranges range looked said =
@@ -139,6 +127,9 @@ StandsIn program step = Contains program step.instr
 abbrev pub FourWords : RowStep → Type 0
 FourWords step = AllByRecursion FourEach step.accesses
 
+abbrev pub HasMeaning : RowStep → Type 0
+HasMeaning step = IsMeaning step.instr step.accesses step.next
+
 abbrev pub step_time : RowStep → ℕ
 step_time step = step.time
 
@@ -154,6 +145,7 @@ pub record AllRead (program : List VmInstr) (rs : List SheetRow) : Type 0 where
   pub times : times_of (flat_map said rs) ≡ map step_time (steps_of rows)
   pub means : AllByRecursion (λ r. SoundRow r.sheet r.row) rs → AllByRecursion MeansIfBytes (steps_of rows)
   pub hints : (found : List HintWord) → AreHints (map said rs) found → found ≡ flat_map step_hint (steps_of rows)
+  pub are_hints : AllByRecursion HasMeaning (steps_of rows) → AreHints (map said rs) (flat_map step_hint (steps_of rows))
 
 times_more : (r : SheetRow) (rs : List SheetRow) → times_of (flat_map said (r ∷ rs)) ≡ times_of (said r) ++ times_of (flat_map said rs)
 times_more r rs = flat_map-append time_if (said r) (flat_map said rs)
@@ -176,6 +168,7 @@ with_silent program r rs silent more = record {
   times = times_more r rs ∙ ap (λ (ts : List ℕ). ts ++ times_of (flat_map said rs)) (silent_times (said r) silent) ∙ more.times;
   means = λ sound. more.means sound.1;
   hints = λ found are. of_hints found are;
+  are_hints = λ means. inl (silent_is_no_hint (said r) silent, more.are_hints means);
 }
   where
     of_hints : (found : List HintWord) → AreHints (map said (r ∷ rs)) found → found ≡ flat_map step_hint (steps_of more.rows)
@@ -194,6 +187,7 @@ with_valid program r rs v more = record {
   times = times_more r rs ∙ ap (λ (ts : List ℕ). ts ++ times_of (flat_map said rs)) times_here ∙ ap (λ (ts : List ℕ). v.time ∷ ts) more.times;
   means = λ sound. (row_means program r.sheet r.row v sound.0, more.means sound.1);
   hints = λ found are. of_hints found are;
+  are_hints = λ means. hint_or_none (nat_eq v.instr.op 37) refl means.0 (more.are_hints means.1);
 }
   where
     valid : is_valid (said r) ≡ true
@@ -211,6 +205,15 @@ with_valid program r rs v more = record {
         let rest : is.1 ≡ flat_map step_hint (steps_of more.rows) = more.hints is.1 is.4 in
         is.3 ∙ rw (here.0, here.1, rest) refl
 
+
+    hint_or_none : (b : Bool) → nat_eq v.instr.op 37 ≡ b → HasMeaning (row_step v) → AreHints (map said rs) (flat_map step_hint (steps_of more.rows))
+        → AreHints (map said (r ∷ rs)) ((if b then record { time = v.time; word = slot_word v.accesses; next = false } ∷ [] else []) ++ flat_map step_hint (steps_of more.rows))
+    hint_or_none true op means rest =
+        let a = hint_access v.instr v.next v.accesses (eqb-true v.instr.op 37 op) means in
+        let is = is_hint r.sheet.slots r.sheet.time_bits v.instr v.time v.next v.accesses (said r) v.few v.step op a.access a.stands a.in_memory a.second in
+        inr (record { time = v.time; word = slot_word v.accesses; next = false }, flat_map step_hint (steps_of more.rows), is, refl, rest)
+    hint_or_none false op means rest = inl (is_no_hint r.sheet.slots r.sheet.time_bits v.instr v.time v.next v.accesses (said r) v.few v.step op, rest)
+
 pub read_all : (program : List VmInstr) (rs : List SheetRow) → AllByRecursion (λ r. Reads program r.sheet r.row) rs → AllRead program rs
 read_all program [] reads = record {
   rows = [];
@@ -223,6 +226,7 @@ read_all program [] reads = record {
   times = refl;
   means = λ sound. tt;
   hints = λ found are. are;
+  are_hints = λ means. refl;
 }
 read_all program (r ∷ rs) reads =
     ⊎_elim

@@ -6,7 +6,7 @@ use Rattle.std.specs.List.Sorted.{IsStrictlyIncreasing}
 use Rattle.std.proofs.lemmas.Grind.{flat_map-append}
 use Rattle.std.proofs.lemmas.List.Elements.{recursion_from_All}
 use Rattle.std.proofs.lemmas.List.Kept.{AllPairs-from_increasing}
-use Rattle.std.proofs.lemmas.List.Sorted.{length_permutation}
+use Rattle.std.proofs.lemmas.List.Sorted.{length_permutation, IsPermutation-sym}
 use Rattle.vm_field.specs.Field.{modulus}
 use Rattle.vm_isa.specs.declared.instr.VmInstr.{VmInstr}
 use Rattle.vm_isa.specs.Blocks.{Blocks, VmGoes, space_size}
@@ -24,6 +24,7 @@ use Rattle.air_core.specs.System.{System, Part, EachRow, GoodRow, Whole, all_eve
 use Rattle.air_core.proofs.ElementLemmas.{all_both, all_permuted}
 use Rattle.exec_path.specs.Path.{slot_sum}
 use Rattle.exec_path.specs.PathEvents.{connector_events}
+use Rattle.exec_path.proofs.Ordering.{in_order, in_order-IsPermutation, in_order-Ascends}
 use Rattle.offline_memory.specs.declared.page.Touched.{Touched}
 use Rattle.offline_memory.specs.BlockMemory.{IsPage, ArePages, HasOld, StepsMeet, after_steps}
 use Rattle.offline_memory.specs.MemoryEvents.{boundary_events}
@@ -41,7 +42,7 @@ use Rattle.acceptance.proofs.EachRow.{all_rows, said, each_both, each_with, rows
 use Rattle.acceptance.proofs.Lookups.{Looked, rows_look_up, good_row, counted_not_on, private_balanced}
 use Rattle.acceptance.proofs.Orders.{differ_in_any, one_order}
 use Rattle.acceptance.proofs.Row.{step_hint, slot_word}
-use Rattle.acceptance.proofs.Rows.{Reads, row_reads, AllRead, read_all, MeansIfBytes, StandsIn, FourWords, step_time}
+use Rattle.acceptance.proofs.Rows.{Reads, row_reads, AllRead, read_all, MeansIfBytes, StandsIn, FourWords, HasMeaning, step_time}
 use Rattle.acceptance.proofs.Steps.{IsMachineStep, step_bytes, path_bytes, path_goes}
 
 -- ---- pages
@@ -181,6 +182,29 @@ module _ (x : System) (fits : ExtensionFits x) (buses : ExtensionBuses x) (timed
       one_order step_hint (λ (h : HintWord). h.time) (steps_of read.rows) run.path run.same_steps spells.sorted
       (subst (λ (xs : List HintWord). IsPermutation xs spells.sorted) found spells.same) spells.in_order (hints_rise run.path run.rises) in
       spells.spell ∙ ap (flat_map hint_bytes) sorted ∙ bytes_joined run.path
+
+  -- so there is one such list
+  pub spelled_once : (a b : List ℕ) → SegmentSpells x s a → SegmentSpells x s b → a ≡ b
+  spelled_once a b p q = spelled a p ∙ sym (spelled b q)
+
+  -- and there is one
+  pub segment_spells : (hints : List ℕ) × SegmentSpells x s hints
+  segment_spells =
+      let found = flat_map step_hint (steps_of read.rows) in
+      let meant : AllByRecursion HasMeaning (steps_of read.rows) =
+      all_permuted HasMeaning run.path (steps_of read.rows) (IsPermutation-sym (steps_of read.rows) run.path run.same_steps)
+      (all_weaker (IsMachineStep program) HasMeaning (λ step m. m.means) run.path on_path) in
+      (
+        flat_map hint_bytes (in_order (λ (h : HintWord). h.time) found),
+        record {
+          found = found;
+          are_hints = subst (λ (l : List (List Event)). AreHints l found) (said_are x.parts s.tables) (read.are_hints meant);
+          sorted = in_order (λ (h : HintWord). h.time) found;
+          same = in_order-IsPermutation (λ (h : HintWord). h.time) found;
+          in_order = in_order-Ascends (λ (h : HintWord). h.time) found;
+          spell = refl;
+        },
+      )
 
   pub segment_runs : (blocks : Blocks) (hints rest : List ℕ) → SegmentSpells x s hints → HasOld s.pages blocks → SegmentRuns program s (valid_rows x s) blocks hints rest
   segment_runs blocks hints rest spells old =

@@ -36,8 +36,8 @@ use Rattle.acceptance.specs.Events.{valid_rows}
 use Rattle.acceptance.specs.Holds.{IsMachineLabel, IsMachinePage, SegmentHolds}
 use Rattle.acceptance.specs.Spelled.{Spell, hint_bytes, low_byte}
 use Rattle.acceptance.specs.Accepts.{AreLinked, last_pc, last_root, Accepts, steps_in, opening_of, openings_of, public_label, Collides}
-use Rattle.acceptance.specs.Laws.{AcceptedFilesAreRunsOnBlocks, AcceptedFilesAreRuns}
-use Rattle.acceptance.proofs.Segments.{are_pages, segment_runs}
+use Rattle.acceptance.specs.Laws.{AcceptedFilesAreRunsOnBlocks, AcceptedFilesAreRuns, AcceptedFilesSpell, AcceptedFilesSpellOneList}
+use Rattle.acceptance.proofs.Segments.{are_pages, segment_runs, segment_spells, spelled_once}
 use Rattle.acceptance.proofs.Start.{start_blocks_are, public_bytes_are}
 
 -- ---- the openings
@@ -130,6 +130,24 @@ spelled_bytes x (s ∷ ss) hints spells =
     subst IsBytes (sym spells.3)
     (all_append (λ n. n < 256) spells.0 spells.1 (subst IsBytes (sym spells.2.spell) (hints_bytes spells.2.sorted)) (spelled_bytes x ss spells.1 spells.4))
 
+-- ---- what is spelled is one list
+
+module _ (x : System) (fits : ExtensionFits x) (buses : ExtensionBuses x) (timed : ExtensionTimed x) (sound : ExtensionSound x) (program : List VmInstr) (ranges : All InRange program) where
+  spell_some : (ss : List Segment) → AllByRecursion (SegmentHolds x program) ss → (hints : List ℕ) × Spell x ss hints
+  spell_some [] holds = ([], refl)
+  spell_some (s ∷ ss) holds =
+      let here = segment_spells x fits buses timed sound program s ranges holds.0 in
+      let rest = spell_some ss holds.1 in
+      (here.0 ++ rest.0, (here.0, rest.0, here.1, refl, rest.1))
+
+  spell_one : (ss : List Segment) (a b : List ℕ) → AllByRecursion (SegmentHolds x program) ss → Spell x ss a → Spell x ss b → a ≡ b
+  spell_one [] a b holds p q = p ∙ sym q
+  spell_one (s ∷ ss) a b holds p q =
+      p.3
+      ∙ ap (λ (xs : List ℕ). xs ++ p.1) (spelled_once x fits buses timed sound program s ranges holds.0 p.0 q.0 p.2 q.2)
+      ∙ ap (λ (xs : List ℕ). q.0 ++ xs) (spell_one ss p.1 q.1 holds.1 p.4 q.4)
+      ∙ sym q.3
+
 -- ---- the whole
 
 module _ (x : System) (fits : ExtensionFits x) (buses : ExtensionBuses x) (timed : ExtensionTimed x) (sound : ExtensionSound x) where
@@ -157,3 +175,9 @@ module _ (x : System) (fits : ExtensionFits x) (buses : ExtensionBuses x) (timed
       inl ((runs_end_alike elf image bytes has hints (steps_in x file.segments) file.code file.public_bytes (spelled_bytes x file.segments hints spells)).1 ends))
       (λ (collision : Collides image file). inr collision)
       (accepted_on_blocks elf image file hints has accepts spells)
+
+  pub accepted_spell : AcceptedFilesSpell x
+  accepted_spell elf image file has accepts = spell_some x fits buses timed sound (program_of image) (rows_in_range elf image has) file.segments accepts.hold
+
+  pub accepted_spell_one : AcceptedFilesSpellOneList x
+  accepted_spell_one elf image file a b has accepts p q = spell_one x fits buses timed sound (program_of image) (rows_in_range elf image has) file.segments a b accepts.hold p q

@@ -39,3 +39,11 @@ AcceptedFilesAreRunsOnBlocks x = (elf : List ℕ) (image : Loaded) (file : File)
 abbrev pub AcceptedFilesAreRuns : System → Type 0
 AcceptedFilesAreRuns x = (elf : List ℕ) (image : Loaded) (file : File) (hints : List ℕ) → IsBytes elf → HasImage elf image → Accepts x image file → Spell x file.segments hints
     → Ends image hints (steps_in x file.segments) file.code file.public_bytes ⊎ Collides image file
+
+-- An accepted file spells hints, and one list of them only.
+abbrev pub AcceptedFilesSpell : System → Type 0
+AcceptedFilesSpell x = (elf : List ℕ) (image : Loaded) (file : File) → HasImage elf image → Accepts x image file → (hints : List ℕ) × Spell x file.segments hints
+
+abbrev pub AcceptedFilesSpellOneList : System → Type 0
+AcceptedFilesSpellOneList x = (elf : List ℕ) (image : Loaded) (file : File) (a b : List ℕ) → HasImage elf image → Accepts x image file
+    → Spell x file.segments a → Spell x file.segments b → a ≡ b
