@@ -1,0 +1,10 @@
+pub mod EachRow
+pub mod Lookups
+pub mod Row
+pub mod Hints
+pub mod Rows
+pub mod Steps
+pub mod Orders
+pub mod Segments
+pub mod Start
+pub mod Whole

@@ -1,0 +1,6 @@
+pub mod File
+pub mod Events
+pub mod Holds
+pub mod Spelled
+pub mod Accepts
+pub mod Laws

@@ -1,0 +1,25 @@
+//! What an accepted file says. Each function is empty: its contract is the law.
+ghost use Rattle.acceptance.specs.Laws.{SegmentsAreRuns, AcceptedFilesAreRunsOnBlocks, AcceptedFilesAreRuns, AcceptedFilesSpell, AcceptedFilesSpellOneList};
+
+use air_core::Extension;
+
+/// A segment that holds is a run on blocks, of as many steps as it has valid rows.
+pub fn segments_are_runs<E: Extension>()
+    ensures { (ext : E) → SegmentsAreRuns (E.system ext) }
+{}
+
+/// An accepted file states a run on blocks, or two nodes that are held have one digest.
+pub fn accepted_files_are_runs_on_blocks<E: Extension>()
+    ensures { (ext : E) → AcceptedFilesAreRunsOnBlocks (E.system ext) }
+{}
+
+/// An accepted file states a run of the manual's machine, or two nodes that are held have one digest.
+pub fn accepted_files_are_runs<E: Extension>()
+    ensures { (ext : E) → AcceptedFilesAreRuns (E.system ext) }
+{}
+
+/// An accepted file spells one list of hints.
+pub fn accepted_files_spell_hints<E: Extension>()
+    ensures some { (ext : E) → AcceptedFilesSpell (E.system ext) }
+    ensures one { (ext : E) → AcceptedFilesSpellOneList (E.system ext) }
+{}
