@@ -15,7 +15,8 @@ use Rattle.air_core.proofs.ElementLemmas.{all_flat_map, all_from_members}
 use Rattle.air_core.specs.ListLemmas.{all_append}
 use Rattle.table_format.specs.declared.CountEntry.{CountEntry}
 use Rattle.table_format.specs.File.{FileValue}
-use Rattle.vm_checker.specs.Accepts.{is_path_bus, IsPathTable, start_of, end_of, received_row, entry_events, file_events}
+use Rattle.acceptance.specs.Events.{received_row}
+use Rattle.vm_checker.specs.Accepts.{is_path_bus, IsPathTable, start_of, end_of, entry_events, file_events}
 
 entry_on_path : (count : ℕ) (found : Option VmInstr) → AllByRecursion (λ e. e.bus < 2) (received_row count found)
 entry_on_path count None = tt

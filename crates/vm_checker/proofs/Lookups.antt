@@ -23,7 +23,8 @@ use Rattle.exec_path.specs.PathEvents.{connector_events, SameTotals}
 use Rattle.exec_path.proofs.Totals.{SameTotals-listed}
 use Rattle.table_format.specs.declared.CountEntry.{CountEntry}
 use Rattle.table_format.specs.File.{FileValue}
-use Rattle.vm_checker.specs.Accepts.{is_path_bus, IsPathTable, start_of, end_of, received_row, entry_events, file_events}
+use Rattle.acceptance.specs.Events.{received_row}
+use Rattle.vm_checker.specs.Accepts.{is_path_bus, IsPathTable, start_of, end_of, entry_events, file_events}
 
 -- the numbers of a row of the program
 pub record ProgramTuple (program : List VmInstr) (tuple : List ℕ) : Type 0 where

@@ -1,12 +1,12 @@
 -- When a file's claim is accepted over a program.
-use Rattle.std.specs.Prelude.{◌≡◌, ℕ, ◌*◌, ◌^◌, ◌<◌, Bool, true, nat_eq, nat_lt, List, [], ◌∷◌, ◌++◌, flat_map, length, count_by, slice_get, Option, Some, None}
+use Rattle.std.specs.Prelude.{◌≡◌, ℕ, ◌*◌, ◌^◌, ◌<◌, Bool, true, nat_eq, nat_lt, List, [], ◌∷◌, ◌++◌, flat_map, length, count_by, slice_get}
 use Rattle.std.specs.List.{AllByRecursion, list_any}
 use Rattle.vm_isa.specs.declared.instr.VmInstr.{VmInstr}
 use Rattle.vm_isa.specs.Blocks.{Terminates}
-use Rattle.vm_isa.specs.Instr.{numbers_of}
 use Rattle.air_core.specs.declared.event.Event.{Event}
-use Rattle.air_core.specs.Sheet.{Sheet, RowHolds, row_events, received}
+use Rattle.air_core.specs.Sheet.{Sheet, RowHolds, row_events}
 use Rattle.air_core.specs.Balance.{BalancedOn}
+use Rattle.acceptance.specs.Events.{received_row}
 use Rattle.exec_path.specs.Path.{Point}
 use Rattle.exec_path.specs.PathEvents.{connector_events}
 use Rattle.table_format.specs.declared.Connector.{Connector}
@@ -34,10 +34,6 @@ abbrev pub end_of : Connector → Point
 end_of c = record { pc = c.pc_end; time = c.end_time }
 
 -- a row of the program is received as often as its entry says
-abbrev pub received_row : ℕ → Option VmInstr → List Event
-received_row count None = []
-received_row count (Some row) = received 1 count (numbers_of row) ∷ []
-
 abbrev pub entry_events : List VmInstr → CountEntry → List Event
 entry_events program e = received_row e.count (slice_get program e.place)
 

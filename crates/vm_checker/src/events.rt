@@ -3,7 +3,8 @@ ghost use Rattle.std.specs.Prelude.{◌≡◌, ◌+◌, ◌*◌, ◌≤◌, flat
 ghost use Rattle.air_core.specs.Sheet.{row_events};
 ghost use Rattle.air_core.specs.Sink.{Handed};
 ghost use Rattle.exec_path.specs.PathEvents.{connector_events};
-ghost use Rattle.vm_checker.specs.Accepts.{start_of, end_of, entry_events, received_row};
+ghost use Rattle.acceptance.specs.Events.{received_row};
+ghost use Rattle.vm_checker.specs.Accepts.{start_of, end_of, entry_events};
 
 use air_core::{Chip, Event, EventSink, OutOfMemory, Side, Tuple};
 use table_format::{Connector, CountEntry};
