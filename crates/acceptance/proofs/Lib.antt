@@ -8,3 +8,4 @@ pub mod Orders
 pub mod Segments
 pub mod Start
 pub mod Whole
+pub mod Example

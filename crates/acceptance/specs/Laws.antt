@@ -4,7 +4,7 @@ use Rattle.elf_image.specs.Image.{HasImage}
 use Rattle.elf_image.specs.Loaded.{Loaded}
 use Rattle.rv_run.specs.Run.{Ends}
 use Rattle.vm_isa.specs.declared.instr.VmInstr.{VmInstr}
-use Rattle.vm_isa.specs.Blocks.{Blocks, VmGoes, VmEnds}
+use Rattle.vm_isa.specs.Blocks.{Blocks, Terminates, VmGoes, VmEnds}
 use Rattle.vm_isa.specs.Instr.{InRange}
 use Rattle.vm_isa.specs.Words.{IsBytes}
 use Rattle.vm_transpile.specs.Program.{program_of}
@@ -13,6 +13,7 @@ use Rattle.air_core.specs.System.{System}
 use Rattle.offline_memory.specs.BlockMemory.{HasOld, HasNew}
 use Rattle.acceptance.specs.File.{Segment, File}
 use Rattle.acceptance.specs.Events.{valid_rows}
+use Rattle.acceptance.specs.Example.{resting_file}
 use Rattle.acceptance.specs.Holds.{SegmentHolds}
 use Rattle.acceptance.specs.Spelled.{SegmentSpells, Spell}
 use Rattle.acceptance.specs.Accepts.{Accepts, steps_in, Collides}
@@ -47,3 +48,7 @@ AcceptedFilesSpell x = (elf : List ℕ) (image : Loaded) (file : File) → HasIm
 abbrev pub AcceptedFilesSpellOneList : System → Type 0
 AcceptedFilesSpellOneList x = (elf : List ℕ) (image : Loaded) (file : File) (a b : List ℕ) → HasImage elf image → Accepts x image file
     → Spell x file.segments a → Spell x file.segments b → a ≡ b
+
+-- The file of no steps is accepted over an image with a TERMINATE at its entry: what the laws ask can be met.
+abbrev pub RestingFilesAreAccepted : System → Type 0
+RestingFilesAreAccepted x = (image : Loaded) (code : ℕ) → Terminates (program_of image) image.entry code → Accepts x image (resting_file x image code)

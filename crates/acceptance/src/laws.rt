@@ -1,5 +1,5 @@
 //! What an accepted file says. Each function is empty: its contract is the law.
-ghost use Rattle.acceptance.specs.Laws.{SegmentsAreRuns, AcceptedFilesAreRunsOnBlocks, AcceptedFilesAreRuns, AcceptedFilesSpell, AcceptedFilesSpellOneList};
+ghost use Rattle.acceptance.specs.Laws.{SegmentsAreRuns, AcceptedFilesAreRunsOnBlocks, AcceptedFilesAreRuns, AcceptedFilesSpell, AcceptedFilesSpellOneList, RestingFilesAreAccepted};
 
 use air_core::Extension;
 
@@ -22,4 +22,9 @@ pub fn accepted_files_are_runs<E: Extension>()
 pub fn accepted_files_spell_hints<E: Extension>()
     ensures some { (ext : E) → AcceptedFilesSpell (E.system ext) }
     ensures one { (ext : E) → AcceptedFilesSpellOneList (E.system ext) }
+{}
+
+/// A file of no steps is accepted, where the program ends at its entry.
+pub fn resting_files_are_accepted<E: Extension>()
+    ensures { (ext : E) → RestingFilesAreAccepted (E.system ext) }
 {}
