@@ -205,7 +205,6 @@ with_valid program r rs v more = record {
         let rest : is.1 ≡ flat_map step_hint (steps_of more.rows) = more.hints is.1 is.4 in
         is.3 ∙ rw (here.0, here.1, rest) refl
 
-
     hint_or_none : (b : Bool) → nat_eq v.instr.op 37 ≡ b → HasMeaning (row_step v) → AreHints (map said rs) (flat_map step_hint (steps_of more.rows))
         → AreHints (map said (r ∷ rs)) ((if b then record { time = v.time; word = slot_word v.accesses; next = false } ∷ [] else []) ++ flat_map step_hint (steps_of more.rows))
     hint_or_none true op means rest =

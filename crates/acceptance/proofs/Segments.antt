@@ -193,8 +193,7 @@ module _ (x : System) (fits : ExtensionFits x) (buses : ExtensionBuses x) (timed
       let found = flat_map step_hint (steps_of read.rows) in
       let meant : AllByRecursion HasMeaning (steps_of read.rows) =
       all_permuted HasMeaning run.path (steps_of read.rows) (IsPermutation-sym (steps_of read.rows) run.path run.same_steps)
-      (all_weaker (IsMachineStep program) HasMeaning (λ step m. m.means) run.path on_path) in
-      (
+      (all_weaker (IsMachineStep program) HasMeaning (λ step m. m.means) run.path on_path) in (
         flat_map hint_bytes (in_order (λ (h : HintWord). h.time) found),
         record {
           found = found;
