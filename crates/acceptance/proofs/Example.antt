@@ -1,32 +1,29 @@
 -- A file of no steps is accepted.
-use Rattle.std.proofs.Common.{◌≡◌, ℕ, zero, suc, ◌+◌, ◌*◌, ◌/◌, ◌<◌, ◌≤◌, ◌^◌, Bool, true, false, ◌&&◌, nat_eq, List, [], ◌∷◌, ◌++◌, length, map, replicate, refl, sym, ap, ◌∙◌, subst, arith, Contains}
-use Rattle.std.specs.Cmp.Lexicographic.{pointwise}
+use Rattle.std.proofs.Common.{◌≡◌, ℕ, zero, suc, ◌/◌, Bool, true, false, ◌&&◌, nat_eq, List, [], ◌∷◌, ◌++◌, length, map, replicate, refl, sym, ◌∙◌, subst, arith, Contains}
 use Rattle.std.specs.List.{AllByRecursion}
 use Rattle.std.specs.List.Sorted.{IsStrictlyIncreasing}
 use Rattle.std.proofs.lemmas.List.{length-map}
 use Rattle.std.proofs.lemmas.List.Elements.{All-from_recursion}
-use Rattle.sha2.specs.Sha256.{sha256}
 use Rattle.sha2.proofs.Facts256.{length-sha256}
 use Rattle.elf_image.specs.Loaded.{Loaded}
 use Rattle.vm_isa.specs.Words.{IsBytes}
 use Rattle.vm_transpile.specs.Program.{program_of}
 use Rattle.air_core.specs.declared.event.Event.{Event}
 use Rattle.air_core.specs.declared.event.Side.TheVariants.{Send, Receive}
-use Rattle.air_core.specs.Balance.{Balanced, IsEven, total, amount_at}
+use Rattle.air_core.specs.Balance.{Balanced, IsEven, amount_at}
 use Rattle.air_core.specs.Sheet.{Sheet, sent, received}
 use Rattle.air_core.specs.System.{System, Part, EachRow, all_events}
 use Rattle.air_core.proofs.BalanceLemmas.{total-cons}
 use Rattle.page_tree.specs.Tree.{Leaves, root, node, replaced}
-use Rattle.page_tree.specs.Opening.{AreDigests, opening_root, siblings_of}
+use Rattle.page_tree.specs.Opening.{siblings_of}
 use Rattle.page_tree.specs.Parts.{labels_of, old_at, new_at, AreRoots}
 use Rattle.page_tree.specs.Path.{path_of, path_from, beside, climb}
 use Rattle.page_tree.specs.Start.{start_map}
 use Rattle.page_tree.proofs.CompleteLemmas.{is_complete, replaced-same, root-same, siblings_of-digests}
 use Rattle.page_tree.proofs.PathLemmas.{length-path_from, climb-path_of}
 use Rattle.page_tree.proofs.StartLemmas.{start_map-out}
-use Rattle.acceptance.specs.File.{Segment}
 use Rattle.acceptance.specs.Accepts.{public_label, IsPublic}
-use Rattle.acceptance.specs.Example.{resting_segment, resting_file}
+use Rattle.acceptance.specs.Example.{resting_segment}
 use Rattle.acceptance.specs.Holds.{SegmentHolds, most_slots}
 use Rattle.acceptance.specs.Laws.{RestingFilesAreAccepted}
 

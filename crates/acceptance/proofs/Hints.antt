@@ -1,6 +1,5 @@
 -- What a meaning says of the word that the host gives.
-use Rattle.std.proofs.Common.{◌≡◌, ◌≢◌, ℕ, ◌+◌, Bool, true, false, nat_eq, List, [], ◌∷◌, ◌++◌, length, map, refl, sym, ap, ◌∙◌, subst, arith, Some, inl, inr}
-use Rattle.std.specs.Prelude.{if◌then◌else◌}
+use Rattle.std.proofs.Common.{◌≡◌, ℕ, false, nat_eq, List, [], ◌∷◌, length, map, refl, sym, ap, ◌∙◌, arith, Some, inl, inr}
 use Rattle.std.specs.List.{AllByRecursion}
 use Rattle.vm_isa.specs.declared.instr.VmInstr.{VmInstr}
 use Rattle.vm_isa.specs.Means.{Accessed, Meaning, means_of, places_by, places_of, accessed_by, new_at, word_at}

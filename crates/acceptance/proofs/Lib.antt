@@ -9,3 +9,4 @@ pub mod Segments
 pub mod Start
 pub mod Whole
 pub mod Example
+pub mod Held

@@ -1,5 +1,5 @@
 -- What rows send to the fixed tables stands there, where the buses balance.
-use Rattle.std.proofs.Common.{◌≡◌, ◌≢◌, ℕ, ◌+◌, ◌<◌, ◌≤◌, Bool, true, List, [], ◌∷◌, ◌++◌, refl, sym, ap, ◌∙◌, subst, arith, inl, inr, Contains, slice_get}
+use Rattle.std.proofs.Common.{◌≡◌, ◌≢◌, ℕ, ◌<◌, ◌≤◌, Bool, true, List, [], ◌∷◌, ◌++◌, refl, sym, ap, ◌∙◌, subst, arith, inl, inr, Contains, slice_get}
 use Rattle.std.specs.Prelude.{flat_map, All, Option, Some, None}
 use Rattle.std.specs.List.{AllByRecursion}
 use Rattle.std.proofs.lemmas.Bool.{ne_eqb}
@@ -14,7 +14,7 @@ use Rattle.air_core.specs.declared.event.Side.TheVariants.{Send, Receive}
 use Rattle.air_core.specs.Balance.{Balanced, BalancedOn, total, amount_at}
 use Rattle.air_core.specs.ExtensionLaws.{ExtensionBuses, PartBuses, OnOwnBus}
 use Rattle.air_core.specs.Laws.{is_lookup}
-use Rattle.air_core.specs.ListLemmas.{all_append, all_weaker, all_counted_some, all_left, all_right}
+use Rattle.air_core.specs.ListLemmas.{all_append, all_weaker, all_counted_some}
 use Rattle.air_core.specs.Lookups.{IsXorRow, IsRangeRow, IsConstantRow, GoodEvent, Good}
 use Rattle.air_core.specs.Orders.{Member}
 use Rattle.air_core.specs.Sheet.{Sheet, row_events}
@@ -29,8 +29,8 @@ use Rattle.offline_memory.specs.MemoryEvents.{block_events, boundary_events}
 use Rattle.offline_memory.specs.Pages.{page_blocks}
 use Rattle.offline_memory.specs.Segment.{NotOn}
 use Rattle.acceptance.specs.File.{Segment}
-use Rattle.acceptance.specs.Events.{Lookups, IsLookedUp, AreLookedUp, received_row, entry_events, counted_events, segment_events, start_of, end_of}
-use Rattle.acceptance.proofs.EachRow.{events_any, events_each, each_with}
+use Rattle.acceptance.specs.Events.{Lookups, AreLookedUp, received_row, entry_events, counted_events, segment_events, start_of, end_of}
+use Rattle.acceptance.proofs.EachRow.{events_any, events_each}
 
 -- the numbers of a row of the program
 pub record ProgramTuple (program : List VmInstr) (tuple : List ℕ) : Type 0 where

@@ -1,5 +1,5 @@
 -- The rows of all tables, and the steps of those that are valid.
-use Rattle.std.proofs.Common.{◌≡◌, ◌≢◌, ◌⊎◌, ℕ, ◌+◌, ◌^◌, ◌<◌, ◌≤◌, Bool, true, false, cond, nat_eq, List, [], ◌∷◌, ◌++◌, length, map, refl, sym, ap, ◌∙◌, subst, arith, inl, inr, ⊎_elim, Contains, pow_mono, Some, None}
+use Rattle.std.proofs.Common.{◌≡◌, ◌⊎◌, ℕ, ◌+◌, ◌^◌, ◌<◌, ◌≤◌, Bool, true, false, cond, nat_eq, List, [], ◌∷◌, ◌++◌, length, map, refl, sym, ap, ◌∙◌, subst, arith, inl, inr, ⊎_elim, Contains, pow_mono, Some, None}
 use Rattle.std.specs.Prelude.{flat_map, All, count_by, if◌then◌else◌}
 use Rattle.std.specs.List.{AllByRecursion}
 use Rattle.std.proofs.lemmas.Bool.{cases_lt, eqb-true}
@@ -14,14 +14,13 @@ use Rattle.air_core.specs.declared.event.Event.{Event}
 use Rattle.air_core.specs.declared.hint.HintWord.{HintWord}
 use Rattle.air_core.specs.Counts.{weight}
 use Rattle.air_core.specs.ExtensionLaws.{PartFits, PartBuses, OnOwnBus, SoundRow}
-use Rattle.air_core.specs.Hint.{NoHint, IsHint}
 use Rattle.air_core.specs.Laws.{Timed}
 use Rattle.air_core.specs.ListLemmas.{all_weaker}
 use Rattle.air_core.specs.Orders.{Member}
 use Rattle.air_core.specs.Sheet.{Sheet, OwnsSome, IsRow, RowHolds, row_events, sent}
-use Rattle.air_core.specs.Step.{Touched, FourEach, on_bus, if_on, IsStep, IsMeaning, TimedStep, SoundStep}
+use Rattle.air_core.specs.Step.{Touched, FourEach, on_bus, IsStep, IsMeaning, TimedStep, SoundStep}
 use Rattle.air_core.specs.System.{Part, time_if, times_of}
-use Rattle.air_core.proofs.ElementLemmas.{all_at, member_cases}
+use Rattle.air_core.proofs.ElementLemmas.{all_at}
 use Rattle.air_core.proofs.StepLaws.{step_same}
 use Rattle.exec_path.specs.Path.{slot_sum}
 use Rattle.offline_memory.specs.Segment.{RowStep, TableRow, RowSays, rows_of, steps_of}

@@ -1,5 +1,5 @@
 -- A segment that holds is a run.
-use Rattle.std.proofs.Common.{◌≡◌, ◌≢◌, ◌⊎◌, ℕ, zero, suc, ◌+◌, ◌*◌, ◌/◌, ◌%◌, ◌^◌, ◌<◌, ◌≤◌, Bool, true, false, nat_eq, List, [], ◌∷◌, ◌++◌, length, map, get_or, refl, sym, ap, ◌∙◌, subst, arith, inl, inr, ⊎_elim, Contains}
+use Rattle.std.proofs.Common.{◌≡◌, ℕ, suc, ◌^◌, ◌<◌, Bool, true, false, nat_eq, List, [], ◌∷◌, ◌++◌, length, map, refl, sym, ap, ◌∙◌, subst, arith, inl, inr}
 use Rattle.std.specs.Prelude.{flat_map, All, count_by, IsPermutation, if◌then◌else◌, AllPairs}
 use Rattle.std.specs.List.{AllByRecursion}
 use Rattle.std.specs.List.Sorted.{IsStrictlyIncreasing}
@@ -7,7 +7,6 @@ use Rattle.std.proofs.lemmas.Grind.{flat_map-append}
 use Rattle.std.proofs.lemmas.List.Elements.{recursion_from_All}
 use Rattle.std.proofs.lemmas.List.Kept.{AllPairs-from_increasing}
 use Rattle.std.proofs.lemmas.List.Sorted.{length_permutation, IsPermutation-sym}
-use Rattle.vm_field.specs.Field.{modulus}
 use Rattle.vm_isa.specs.declared.instr.VmInstr.{VmInstr}
 use Rattle.vm_isa.specs.Blocks.{Blocks, VmGoes, space_size}
 use Rattle.vm_isa.specs.Instr.{InRange}
@@ -20,25 +19,24 @@ use Rattle.air_core.specs.Laws.{Timed}
 use Rattle.air_core.specs.ListLemmas.{all_append, all_weaker}
 use Rattle.air_core.specs.Orders.{Rises, Distinct}
 use Rattle.air_core.specs.Sheet.{Sheet, IsRow, RowHolds, row_events}
-use Rattle.air_core.specs.System.{System, Part, EachRow, GoodRow, Whole, all_events, times_of}
+use Rattle.air_core.specs.System.{System, Part, EachRow, GoodRow, Whole, times_of}
 use Rattle.air_core.proofs.ElementLemmas.{all_both, all_permuted}
-use Rattle.exec_path.specs.Path.{slot_sum}
 use Rattle.exec_path.specs.PathEvents.{connector_events}
 use Rattle.exec_path.proofs.Ordering.{in_order, in_order-IsPermutation, in_order-Ascends}
 use Rattle.offline_memory.specs.declared.page.Touched.{Touched}
-use Rattle.offline_memory.specs.BlockMemory.{IsPage, ArePages, HasOld, StepsMeet, after_steps}
+use Rattle.offline_memory.specs.BlockMemory.{IsPage, ArePages, HasOld, after_steps}
 use Rattle.offline_memory.specs.MemoryEvents.{boundary_events}
-use Rattle.offline_memory.specs.Pages.{page_space, DistinctLabels, PagesOfBytes}
-use Rattle.offline_memory.specs.Segment.{RowStep, TableRow, OneRun, StepHasBytes, rows_of, steps_of}
+use Rattle.offline_memory.specs.Pages.{page_space, DistinctLabels}
+use Rattle.offline_memory.specs.Segment.{RowStep, TableRow, OneRun, StepHasBytes, steps_of}
 use Rattle.offline_memory.proofs.WholeSegment.{whole_run}
 use Rattle.offline_memory.proofs.BlockLemmas.{run_meets_blocks}
 use Rattle.page_tree.specs.Parts.{labels_of, label_of}
 use Rattle.acceptance.specs.File.{Segment}
-use Rattle.acceptance.specs.Events.{counted_events, segment_events, start_of, end_of, said_by_rows, is_valid, valid_rows}
-use Rattle.acceptance.specs.Holds.{IsMachineLabel, IsMachinePage, SegmentHolds, most_slots}
+use Rattle.acceptance.specs.Events.{counted_events, start_of, end_of, is_valid, valid_rows}
+use Rattle.acceptance.specs.Holds.{IsMachineLabel, IsMachinePage, SegmentHolds}
 use Rattle.acceptance.specs.Laws.{SegmentRuns, SegmentsAreRuns}
 use Rattle.acceptance.specs.Spelled.{AreHints, SegmentSpells, hint_bytes}
-use Rattle.acceptance.proofs.EachRow.{all_rows, said, each_both, each_with, rows_each, events_are, said_are, slots_are}
+use Rattle.acceptance.proofs.EachRow.{all_rows, each_both, each_with, rows_each, events_are, said_are, slots_are}
 use Rattle.acceptance.proofs.Lookups.{Looked, rows_look_up, good_row, counted_not_on, private_balanced}
 use Rattle.acceptance.proofs.Orders.{differ_in_any, one_order}
 use Rattle.acceptance.proofs.Row.{step_hint, slot_word}

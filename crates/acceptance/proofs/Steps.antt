@@ -1,16 +1,12 @@
 -- Steps that meet the blocks are steps of the machine, and a path of them is a run.
-use Rattle.std.proofs.Common.{◌≡◌, ◌≢◌, ℕ, zero, suc, ◌+◌, ◌*◌, ◌%◌, ◌<◌, ◌≤◌, Bool, true, false, nat_eq, List, [], ◌∷◌, ◌++◌, length, map, take, drop, refl, sym, ap, ◌∙◌, subst, arith, Some, Contains, append_assoc}
+use Rattle.std.proofs.Common.{◌≡◌, ℕ, zero, suc, ◌%◌, ◌≤◌, Bool, true, false, nat_eq, List, [], ◌∷◌, ◌++◌, length, map, take, drop, refl, sym, ap, ◌∙◌, subst, arith, Some, Contains, append_assoc}
 use Rattle.std.specs.Prelude.{flat_map, if◌then◌else◌}
 use Rattle.std.specs.List.{AllByRecursion}
-use Rattle.std.proofs.lemmas.Bool.{ne_eqb, eqb-true, eq-eqb}
-use Rattle.std.proofs.lemmas.Grind.{flat_map-append}
+use Rattle.std.proofs.lemmas.Bool.{eqb-true}
 use Rattle.vm_isa.specs.declared.instr.VmInstr.{VmInstr}
 use Rattle.vm_isa.specs.Blocks.{Blocks, VmState, VmStep, VmGoes, Meets, after_accesses, hints_used}
-use Rattle.vm_isa.specs.Means.{Accessed, Meaning, means_of, places_by, places_of, accessed_by, new_at, word_at}
+use Rattle.vm_isa.specs.Means.{Accessed, means_of}
 use Rattle.vm_isa.specs.Words.{IsBytes}
-use Rattle.vm_isa.proofs.MeansLaws.{done_whole, whole}
-use Rattle.vm_isa.proofs.NextLaws.{meant, is_done}
-use Rattle.air_core.specs.declared.hint.HintWord.{HintWord}
 use Rattle.air_core.specs.Step.{Touched, FourEach, IsMeaning, accessed}
 use Rattle.exec_path.specs.Path.{Point, IsPath}
 use Rattle.offline_memory.specs.BlockMemory.{StepsMeet, after_steps, step_accesses}
@@ -18,7 +14,6 @@ use Rattle.offline_memory.specs.Segment.{RowStep, StepHasBytes, rows_of, timed_r
 use Rattle.acceptance.specs.Spelled.{hint_bytes, low_byte}
 use Rattle.acceptance.proofs.Hints.{any_given, hint_word, hint_four, olds_of}
 use Rattle.acceptance.proofs.Row.{slot_word, step_hint}
-use Rattle.acceptance.proofs.Rows.{StandsIn, FourWords}
 
 -- the word in slot 1 is that of an access, or none is there
 slot_bytes : (accesses : List Touched) → AllByRecursion (λ a. IsBytes a.old × IsBytes a.new) accesses → IsBytes (slot_word accesses)

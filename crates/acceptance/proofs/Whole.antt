@@ -1,12 +1,9 @@
 -- Segments one after the other are one run, and it is the machine's.
-use Rattle.std.proofs.Common.{◌≡◌, ◌⊎◌, ℕ, zero, suc, ◌+◌, ◌<◌, ◌≤◌, ◌^◌, Bool, true, false, List, [], ◌∷◌, ◌++◌, length, map, get_or, refl, sym, ap, ◌∙◌, subst, arith, inl, inr, ⊎_elim, Contains}
+use Rattle.std.proofs.Common.{◌≡◌, ℕ, zero, suc, ◌+◌, ◌<◌, ◌^◌, Bool, true, false, List, [], ◌∷◌, ◌++◌, length, map, get_or, refl, sym, ap, ◌∙◌, subst, arith, inl, inr, ⊎_elim, Contains}
 use Rattle.std.specs.Prelude.{All, flat_map, if◌then◌else◌}
 use Rattle.std.specs.List.{AllByRecursion}
 use Rattle.std.specs.List.Sorted.{IsStrictlyIncreasing}
 use Rattle.std.proofs.lemmas.List.Elements.{All-from_recursion, Contains-get_or}
-use Rattle.elf_image.specs.Loaded.{Loaded}
-use Rattle.elf_image.specs.Image.{HasImage}
-use Rattle.rv_run.specs.Run.{Ends}
 use Rattle.vm_isa.specs.declared.instr.VmInstr.{VmInstr}
 use Rattle.vm_isa.specs.Blocks.{Blocks, VmState, VmGoes, VmEnds}
 use Rattle.vm_isa.specs.Instr.{InRange}
@@ -22,20 +19,20 @@ use Rattle.air_core.specs.System.{System}
 use Rattle.air_core.proofs.ElementLemmas.{all_map}
 use Rattle.offline_memory.specs.declared.page.Touched.{Touched}
 use Rattle.offline_memory.specs.BlockMemory.{HasOld}
-use Rattle.page_tree.specs.Tree.{Leaves, root, replaced, Collision}
-use Rattle.page_tree.specs.Opening.{AreLabels, opening_root}
-use Rattle.page_tree.specs.Chain.{Opening, IsOpening, IsChain, AreMatched, IsHeldWithPath, after}
+use Rattle.page_tree.specs.Tree.{Leaves, root}
+use Rattle.page_tree.specs.Opening.{AreLabels}
+use Rattle.page_tree.specs.Chain.{IsChain, AreMatched, after}
 use Rattle.page_tree.specs.MapBlocks.{AreBlocksOf}
-use Rattle.page_tree.specs.Parts.{label_of, labels_of, bytes_at, old_at, new_at, with_pages}
+use Rattle.page_tree.specs.Parts.{label_of, labels_of, old_at, with_pages}
 use Rattle.page_tree.specs.Start.{start_map}
 use Rattle.page_tree.proofs.BlockLemmas.{pages_have_old, pages_leave_new}
 use Rattle.page_tree.proofs.PartLemmas.{bytes_at-place, labels_of-place, length-labels_of}
 use Rattle.page_tree.proofs.RootLemmas.{chain_shows}
-use Rattle.acceptance.specs.File.{Segment, File}
+use Rattle.acceptance.specs.File.{Segment}
 use Rattle.acceptance.specs.Events.{valid_rows}
 use Rattle.acceptance.specs.Holds.{IsMachineLabel, IsMachinePage, SegmentHolds}
 use Rattle.acceptance.specs.Spelled.{Spell, hint_bytes, low_byte}
-use Rattle.acceptance.specs.Accepts.{AreLinked, last_pc, last_root, Accepts, steps_in, opening_of, openings_of, public_label, Collides}
+use Rattle.acceptance.specs.Accepts.{AreLinked, last_pc, last_root, steps_in, opening_of, openings_of, public_label, Collides}
 use Rattle.acceptance.specs.Laws.{AcceptedFilesAreRunsOnBlocks, AcceptedFilesAreRuns, AcceptedFilesSpell, AcceptedFilesSpellOneList}
 use Rattle.acceptance.proofs.Segments.{are_pages, segment_runs, segment_spells, spelled_once}
 use Rattle.acceptance.proofs.Start.{start_blocks_are, public_bytes_are}

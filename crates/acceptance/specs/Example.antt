@@ -1,5 +1,5 @@
 -- A file of no steps, of an image that ends where it begins.
-use Rattle.std.specs.Prelude.{ℕ, true, List, [], ◌∷◌, map, replicate}
+use Rattle.std.specs.Prelude.{ℕ, true, [], ◌∷◌, map, replicate}
 use Rattle.elf_image.specs.Loaded.{Loaded}
 use Rattle.air_core.specs.System.{System}
 use Rattle.page_tree.specs.Tree.{root}

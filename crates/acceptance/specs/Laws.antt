@@ -1,5 +1,5 @@
 -- What an accepted file says. Each law is the contract of a function in src/laws.rt.
-use Rattle.std.specs.Prelude.{◌≡◌, ℕ, ◌⊎◌, List, ◌++◌, All}
+use Rattle.std.specs.Prelude.{◌≡◌, ℕ, ◌⊎◌, List, ◌++◌, length, All}
 use Rattle.elf_image.specs.Image.{HasImage}
 use Rattle.elf_image.specs.Loaded.{Loaded}
 use Rattle.rv_run.specs.Run.{Ends}
@@ -16,7 +16,7 @@ use Rattle.acceptance.specs.Events.{valid_rows}
 use Rattle.acceptance.specs.Example.{resting_file}
 use Rattle.acceptance.specs.Holds.{SegmentHolds}
 use Rattle.acceptance.specs.Spelled.{SegmentSpells, Spell}
-use Rattle.acceptance.specs.Accepts.{Accepts, steps_in, Collides}
+use Rattle.acceptance.specs.Accepts.{Accepts, steps_in, IsHeld, Collides}
 
 -- what a segment leads to, from blocks that have its pages' old words
 pub record SegmentRuns (program : List VmInstr) (s : Segment) (n : ℕ) (blocks : Blocks) (hints rest : List ℕ) : Type 0 where
@@ -48,6 +48,10 @@ AcceptedFilesSpell x = (elf : List ℕ) (image : Loaded) (file : File) → HasIm
 abbrev pub AcceptedFilesSpellOneList : System → Type 0
 AcceptedFilesSpellOneList x = (elf : List ℕ) (image : Loaded) (file : File) (a b : List ℕ) → HasImage elf image → Accepts x image file
     → Spell x file.segments a → Spell x file.segments b → a ≡ b
+
+-- The nodes that an accepted file holds have 64 bytes each.
+abbrev pub HeldNodesHave64Bytes : System → Type 0
+HeldNodesHave64Bytes x = (image : Loaded) (file : File) (node : List ℕ) → Accepts x image file → IsHeld image file node → length node ≡ 64
 
 -- The file of no steps is accepted over an image with a TERMINATE at its entry: what the laws ask can be met.
 abbrev pub RestingFilesAreAccepted : System → Type 0

@@ -1,5 +1,5 @@
 //! What an accepted file says. Each function is empty: its contract is the law.
-ghost use Rattle.acceptance.specs.Laws.{SegmentsAreRuns, AcceptedFilesAreRunsOnBlocks, AcceptedFilesAreRuns, AcceptedFilesSpell, AcceptedFilesSpellOneList, RestingFilesAreAccepted};
+ghost use Rattle.acceptance.specs.Laws.{SegmentsAreRuns, AcceptedFilesAreRunsOnBlocks, AcceptedFilesAreRuns, AcceptedFilesSpell, AcceptedFilesSpellOneList, HeldNodesHave64Bytes, RestingFilesAreAccepted};
 
 use air_core::Extension;
 
@@ -22,6 +22,11 @@ pub fn accepted_files_are_runs<E: Extension>()
 pub fn accepted_files_spell_hints<E: Extension>()
     ensures some { (ext : E) → AcceptedFilesSpell (E.system ext) }
     ensures one { (ext : E) → AcceptedFilesSpellOneList (E.system ext) }
+{}
+
+/// The nodes that an accepted file holds have 64 bytes each.
+pub fn held_nodes_have_64_bytes<E: Extension>()
+    ensures { (ext : E) → HeldNodesHave64Bytes (E.system ext) }
 {}
 
 /// A file of no steps is accepted, where the program ends at its entry.
