@@ -50,7 +50,7 @@ Received program e = e.side ≡ Receive → Stands program e
 
 -- ---- what is received stands in its table
 
-contains_at : (program : List VmInstr) (place : ℕ) (row : VmInstr) → slice_get program place ≡ Some row → Contains program row
+pub contains_at : (program : List VmInstr) (place : ℕ) (row : VmInstr) → slice_get program place ≡ Some row → Contains program row
 contains_at program place row h =
     subst (Contains program) (get_or_from_slice_get program place row row h) (Contains-get_or program place row (slice_get_within program place row h))
 
@@ -146,7 +146,7 @@ module _ (x : System) (program : List VmInstr) (s : Segment) (l : Lookups s) (bu
 -- ---- what is sent is received
 
 -- an event with a count adds to the sum of its place
-member_counts : (e : Event) (events : List Event) → Member e events → 0 < e.count → 0 < total e.side e.bus e.tuple events
+pub member_counts : (e : Event) (events : List Event) → Member e events → 0 < e.count → 0 < total e.side e.bus e.tuple events
 member_counts e [] h some = elim h [ ]
 member_counts e (x ∷ xs) (inl same) some =
     let here : amount_at e.side e.bus e.tuple e ≡ e.count = rw (test_of_there e.side e.bus e.tuple e (record { bus_is = refl; side_is = refl; tuple_is = refl })) refl in

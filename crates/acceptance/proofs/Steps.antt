@@ -123,7 +123,7 @@ machine_step program step blocks rest m meets =
 -- ---- a path
 
 -- a step before a run is a run
-goes_first : (program : List VmInstr) (s t u : VmState) (n : ℕ) → VmStep program s t → VmGoes program t n u → VmGoes program s (suc n) u
+pub goes_first : (program : List VmInstr) (s t u : VmState) (n : ℕ) → VmStep program s t → VmGoes program t n u → VmGoes program s (suc n) u
 goes_first program s t u zero step same = (s, refl, subst (VmStep program s) (sym same) step)
 goes_first program s t u (suc n) step (before, reached, last) = (before, goes_first program s t before n step reached, last)
 

@@ -251,3 +251,55 @@ fn filled_rows(rt: HostRuntime) -> Result<(), Fail> {
     }
     Ok(())
 }
+
+/// ADDI x5, x0, 7 at the pc 4096, as the first step of a segment, filled by the chip.
+#[test]
+fn the_row_of_a_step(rt: HostRuntime) -> Result<(), Fail> {
+    let read = Access {
+        space: 1,
+        pointer: 0,
+        old: [0; 4],
+        new: [0; 4],
+    };
+    let written = Access {
+        space: 1,
+        pointer: 20,
+        old: [0; 4],
+        new: [7, 0, 0, 0],
+    };
+    let mut accesses = AccessList::new(rt.alloc());
+    accesses.push(TimedAccess {
+        access: read,
+        time: 1,
+        before: 0,
+    })?;
+    accesses.push(TimedAccess {
+        access: written,
+        time: 3,
+        before: 0,
+    })?;
+    let done = StepRecord {
+        instr: VmInstr {
+            pc: 4096,
+            op: 1,
+            rd: 5,
+            rs1: 0,
+            rs2: 0,
+            write: true,
+            use_imm: true,
+            imm: [7, 0, 0, 0],
+            target: 0,
+        },
+        time: 1,
+        accesses,
+        next: 4100,
+    };
+    let mut row = [Fe::ZERO; 40];
+    Alu::new().fill(&done, 0, &mut row);
+    let wanted = elements(&[
+        4096, 1, 1, 0, 0, 0, 0, 5, 0, 0, 1, 7, 0, 0, 0, 0, 0, 0, 0, 7, 0, 0, 0, 0, 0, 0, 0, 7, 0,
+        0, 0, 0, 0, 0, 0, 0, 0, 0, 2, 0,
+    ]);
+    assert_eq!(rt; row, wanted);
+    Ok(())
+}

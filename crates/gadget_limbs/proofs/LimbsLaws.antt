@@ -1,5 +1,5 @@
 -- Words of a row, and the numbers that they make.
-use Rattle.std.proofs.Common.{◌≡◌, ℕ, ◌^◌, ◌<◌, List, [], ◌∷◌, length, refl, arith, lit<, slice_index, zero, suc}
+use Rattle.std.proofs.Common.{◌≡◌, ℕ, ◌^◌, ◌<◌, List, [], ◌∷◌, length, refl, sym, ap, ◌∙◌, arith, lit<, slice_index, zero, suc}
 use Rattle.std.proofs.Math.Nat.{pow-suc}
 use Rattle.vm_word.specs.Word.{word_of_limbs, limbs_of}
 use Rattle.vm_word.proofs.WordLemmas.{word_of_limbs-lt, limbs_of-word_of_limbs}
@@ -55,3 +55,11 @@ limbs_of-word xs h = limbs_of-word_of_limbs xs h.four (λ i low. byte_at xs i h.
 
 pub limbs_word : (n : ℕ) → IsWord (limbs_of n)
 limbs_word n = record { four = refl; bytes = (omega arith, (omega arith, (omega arith, (omega arith, tt)))) }
+
+-- limbs with one list are one word's
+from-list_of : (w : Limbs) → limbs_from (list_of w) ≡ w
+unfolding limbs_from list_of
+from-list_of w = refl
+
+pub limbs_same : (v w : Limbs) → list_of v ≡ list_of w → v ≡ w
+limbs_same v w e = sym (from-list_of v) ∙ ap limbs_from e ∙ from-list_of w

@@ -1,22 +1,21 @@
 -- What a row sends on the program bus is a row of the program, where the buses balance.
-use Rattle.std.proofs.Common.{◌≡◌, ◌≢◌, ℕ, ◌<◌, List, [], ◌∷◌, ◌++◌, refl, sym, ap, ◌∙◌, subst, arith, inl, inr, Contains, slice_get}
+use Rattle.std.proofs.Common.{◌≡◌, ◌≢◌, ℕ, ◌<◌, List, [], ◌∷◌, ◌++◌, refl, sym, ap, ◌∙◌, subst, arith, Contains, slice_get}
 use Rattle.std.specs.Prelude.{flat_map, All, Option, Some, None, IsPermutation}
 use Rattle.std.proofs.lemmas.Bool.{ne_eqb}
 use Rattle.std.proofs.lemmas.List.Sorted.{IsPermutation-refl}
 use Rattle.std.specs.List.{AllByRecursion}
-use Rattle.std.proofs.lemmas.List.Elements.{All-contains, All-from_recursion, Contains-get_or}
-use Rattle.std.proofs.lemmas.Option.{slice_get_within, get_or_from_slice_get}
+use Rattle.std.proofs.lemmas.List.Elements.{All-contains, All-from_recursion}
 use Rattle.vm_isa.specs.declared.instr.VmInstr.{VmInstr}
 use Rattle.vm_isa.specs.Instr.{InRange, numbers_of}
 use Rattle.air_core.specs.declared.event.Event.{Event}
 use Rattle.air_core.specs.declared.event.Side.TheVariants.{Send, Receive}
 use Rattle.air_core.specs.Sheet.{Sheet, row_events}
-use Rattle.air_core.specs.Balance.{BalancedOn, total, amount_at}
+use Rattle.air_core.specs.Balance.{BalancedOn, total}
 use Rattle.air_core.specs.Laws.{Buses, MayBus}
 use Rattle.air_core.specs.Lookups.{GoodEvent, Good}
 use Rattle.air_core.specs.ListLemmas.{all_counted_some, on_bus-append, all_append, all_weaker}
 use Rattle.air_core.specs.Step.{on_bus}
-use Rattle.air_core.proofs.BalanceLemmas.{test_of_there, member_of_total, total-cons}
+use Rattle.air_core.proofs.BalanceLemmas.{member_of_total}
 use Rattle.air_core.specs.Orders.{Member}
 use Rattle.air_core.proofs.ElementLemmas.{all_flat_map, all_from_members, all_at, member_left, member_right, member_piece}
 use Rattle.exec_path.specs.PathEvents.{connector_events, SameTotals}
@@ -24,6 +23,7 @@ use Rattle.exec_path.proofs.Totals.{SameTotals-listed}
 use Rattle.table_format.specs.declared.CountEntry.{CountEntry}
 use Rattle.table_format.specs.File.{FileValue}
 use Rattle.acceptance.specs.Events.{received_row}
+use Rattle.acceptance.proofs.Lookups.{contains_at, member_counts}
 use Rattle.vm_checker.specs.Accepts.{is_path_bus, IsPathTable, start_of, end_of, entry_events, file_events}
 
 -- the numbers of a row of the program
@@ -35,10 +35,6 @@ pub record ProgramTuple (program : List VmInstr) (tuple : List ℕ) : Type 0 whe
 -- what is received on the program bus is a row of the program
 abbrev Received : List VmInstr → Event → Type 0
 Received program e = e.bus ≡ 1 → e.side ≡ Receive → ProgramTuple program e.tuple
-
-contains_at : (program : List VmInstr) (place : ℕ) (row : VmInstr) → slice_get program place ≡ Some row → Contains program row
-contains_at program place row h =
-    subst (Contains program) (get_or_from_slice_get program place row row h) (Contains-get_or program place row (slice_get_within program place row h))
 
 received_at : (program : List VmInstr) (place count : ℕ) (found : Option VmInstr) → slice_get program place ≡ found → AllByRecursion (Received program) (received_row count found)
 received_at program place count None h = tt
@@ -65,15 +61,6 @@ all_received sheet program v buses =
     all_append (Received program) (connector_events (start_of v.connector) (end_of v.connector)) (flat_map (row_events sheet) v.rows ++ flat_map (entry_events program) v.entries)
     (λ bus side. absurd (omega (arith, bus)), (λ bus side. absurd (omega (arith, bus)), tt))
     (all_append (Received program) (flat_map (row_events sheet) v.rows) (flat_map (entry_events program) v.entries) (rows_received sheet program v.rows buses) (entries_received program v.entries))
-
--- an event with a count adds to the sum of its place
-member_counts : (e : Event) (events : List Event) → Member e events → 0 < e.count → 0 < total e.side e.bus e.tuple events
-member_counts e [] h some = elim h [ ]
-member_counts e (x ∷ xs) (inl same) some =
-    let here : amount_at e.side e.bus e.tuple e ≡ e.count = rw (test_of_there e.side e.bus e.tuple e (record { bus_is = refl; side_is = refl; tuple_is = refl })) refl in
-    let there : amount_at e.side e.bus e.tuple x ≡ e.count = ap (amount_at e.side e.bus e.tuple) same ∙ here in
-    omega (arith, total-cons e.side e.bus e.tuple x xs, there, some)
-member_counts e (x ∷ xs) (inr later) some = omega (arith, total-cons e.side e.bus e.tuple x xs, member_counts e xs later some)
 
 -- what is sent on the program bus is received there
 sent_tuple : (program : List VmInstr) (events : List Event) → AllByRecursion (Received program) events → BalancedOn is_path_bus events → (e : Event) → Member e events → 0 < e.count → e.bus ≡ 1 → e.side ≡ Send → ProgramTuple program e.tuple

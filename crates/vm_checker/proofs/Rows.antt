@@ -1,5 +1,5 @@
 -- The rows of a file as rows of the path.
-use Rattle.std.proofs.Common.{◌≡◌, ◌≢◌, ℕ, ◌*◌, ◌<◌, ◌≤◌, Bool, true, false, cond, nat_eq, List, [], ◌∷◌, ◌++◌, length, length-append, refl, sym, ap, ◌∙◌, subst, arith, inl, inr, Contains, ⊎_elim}
+use Rattle.std.proofs.Common.{◌≡◌, ◌≢◌, ℕ, ◌*◌, ◌<◌, ◌≤◌, Bool, true, false, cond, nat_eq, List, [], ◌∷◌, ◌++◌, length, length-append, refl, sym, ap, ◌∙◌, subst, arith, inl, Contains, ⊎_elim}
 use Rattle.std.specs.Prelude.{flat_map, All, Some, count_by, IsPermutation}
 use Rattle.std.specs.List.{AllByRecursion, list_any}
 use Rattle.std.proofs.lemmas.List.Sums.{sum_by-cons}
@@ -14,16 +14,16 @@ use Rattle.vm_isa.proofs.InstrLaws.{numbers_of-same}
 use Rattle.air_core.specs.declared.event.Event.{Event}
 use Rattle.air_core.specs.Sheet.{Sheet, RowHolds, IsRow, row_events, sent}
 use Rattle.air_core.specs.Balance.{BalancedOn}
-use Rattle.air_core.specs.Step.{Touched, SoundStep, IsMeaning, touched_events, on_bus, if_on}
+use Rattle.air_core.specs.Step.{Touched, SoundStep, IsMeaning, touched_events, on_bus}
 use Rattle.air_core.specs.Laws.{Buses, Fits, Sound}
 use Rattle.air_core.specs.ListLemmas.{on_bus_none, all_append, all_weaker}
 use Rattle.air_core.specs.Orders.{Member}
 use Rattle.exec_path.specs.Path.{TimedRow, AddsSlots, slot_sum}
 use Rattle.exec_path.specs.PathEvents.{SameTotals, path_events}
 use Rattle.air_core.proofs.Counting.{weight-append}
-use Rattle.air_core.proofs.ElementLemmas.{member_cases}
 use Rattle.exec_path.proofs.Totals.{SameTotals-listed, SameTotals-append}
 use Rattle.table_format.specs.File.{FileValue}
+use Rattle.acceptance.proofs.Row.{on_bus_member}
 use Rattle.vm_checker.specs.Accepts.{is_path_bus, IsPathTable, file_events, is_valid}
 use Rattle.vm_checker.proofs.Lookups.{row_tuple, row_good}
 
@@ -40,19 +40,6 @@ pub record IsPathStep (program : List VmInstr) (row : TimedRow) : Type 0 where
 none_touched : (time : ℕ) (accesses : List Touched) → [] ≡ flat_map (touched_events time) accesses → accesses ≡ []
 none_touched time [] h = refl
 none_touched time (a ∷ accesses) h = absurd (cc)
-
-member_if : (y e : Event) (b : Bool) → Member y (cond b (e ∷ []) []) → e ≡ y
-member_if y e true (inl same) = same
-member_if y e true (inr h) = elim h [ ]
-member_if y e false h = elim h [ ]
-
-on_bus_member : (bus : ℕ) (y : Event) (events : List Event) → Member y (on_bus bus events) → Member y events
-on_bus_member bus y [] h = h
-on_bus_member bus y (e ∷ es) h =
-    elim (member_cases y (if_on bus e) (on_bus bus es) h) [
-      | inl a ↦ inl (member_if y e (nat_eq e.bus bus) a)
-      | inr b ↦ inr (on_bus_member bus y es b)
-    ]
 
 spoken_by : (e : Event) (es : List Event) (b : Bool) (x : Event) (xs : List Event) → nat_eq e.bus 0 ≡ b → (on_bus 0 es ≡ x ∷ xs → list_any (λ e. nat_eq e.bus 0) es ≡ true)
     → cond b (e ∷ []) [] ++ on_bus 0 es ≡ x ∷ xs → list_any (λ e. nat_eq e.bus 0) (e ∷ es) ≡ true

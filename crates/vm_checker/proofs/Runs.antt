@@ -1,5 +1,5 @@
 -- The path of an accepted file is a run on blocks.
-use Rattle.std.proofs.Common.{◌≡◌, ℕ, zero, suc, ◌<◌, ◌^◌, true, List, [], ◌∷◌, ◌++◌, length, refl, sym, ap, ◌∙◌, subst, arith, take, replicate, append-nil}
+use Rattle.std.proofs.Common.{◌≡◌, ℕ, ◌<◌, ◌^◌, true, List, [], ◌∷◌, ◌++◌, length, refl, sym, ap, ◌∙◌, subst, arith, take, replicate, append-nil}
 use Rattle.std.specs.Prelude.{flat_map, All}
 use Rattle.std.specs.List.{AllByRecursion}
 use Rattle.std.proofs.lemmas.Bool.{eqb-true}
@@ -24,6 +24,7 @@ use Rattle.vm_transpile.specs.Start.{vm_start}
 use Rattle.vm_transpile.proofs.Ranges.{rows_in_range}
 use Rattle.vm_transpile.proofs.RunsAlike.{runs_end_alike}
 use Rattle.elf_image.specs.Image.{HasImage}
+use Rattle.acceptance.proofs.Steps.{goes_first}
 use Rattle.vm_checker.specs.Accepts.{Accepts, IsPathTable, is_path_bus, start_of, end_of, entry_events, file_events, valid_rows}
 use Rattle.vm_checker.proofs.Lookups.{entries_elsewhere}
 use Rattle.vm_checker.specs.Laws.{AcceptedFilesAreRuns}
@@ -48,11 +49,6 @@ path_step program s row from step =
       enough = omega (arith, none);
       next = rw none refl;
     }
-
--- a step before a run is a run
-goes_first : (program : List VmInstr) (s t u : VmState) (n : ℕ) → VmStep program s t → VmGoes program t n u → VmGoes program s (suc n) u
-goes_first program s t u zero step same = (s, refl, subst (VmStep program s) (sym same) step)
-goes_first program s t u (suc n) step (before, reached, last) = (before, goes_first program s t before n step reached, last)
 
 path_goes : (program : List VmInstr) (s : VmState) (start end : Point) (rows : List TimedRow) → start.pc ≡ s.pc → AllByRecursion (IsPathStep program) rows → IsPath start rows end → VmGoes program s (length rows) (at_pc s end.pc)
 path_goes program s start end [] from steps path = ap (at_pc s) (sym (ap (λ (x : Point). x.pc) path) ∙ from)

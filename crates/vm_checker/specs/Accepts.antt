@@ -1,5 +1,5 @@
 -- When a file's claim is accepted over a program.
-use Rattle.std.specs.Prelude.{◌≡◌, ℕ, ◌*◌, ◌^◌, ◌<◌, Bool, true, nat_eq, nat_lt, List, [], ◌∷◌, ◌++◌, flat_map, length, count_by, slice_get}
+use Rattle.std.specs.Prelude.{◌≡◌, ℕ, ◌*◌, ◌^◌, ◌<◌, Bool, true, nat_eq, nat_lt, List, ◌++◌, flat_map, length, count_by, slice_get}
 use Rattle.std.specs.List.{AllByRecursion, list_any}
 use Rattle.vm_isa.specs.declared.instr.VmInstr.{VmInstr}
 use Rattle.vm_isa.specs.Blocks.{Terminates}
