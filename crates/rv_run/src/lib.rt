@@ -13,7 +13,7 @@ mod results;
 mod state;
 
 use elf_image::Image;
-pub use laws::run_end_is_one;
+pub use laws::{run_end_is_one, run_takes_hints};
 pub use outcome::{Cause, RunEnd, Stepped, Trap};
 pub use state::State;
 pub use std::alloc::AllocError as OutOfMemory;

@@ -55,7 +55,7 @@ impl<'a> Memory<'a> {
         self.image
     }
 
-    /// The byte at an address.
+    /// The byte at an address, the image's where no page is kept.
     pub fn byte(&self, address: u32) -> u8
         ensures { result ≡ memory_of self.now address }
     {

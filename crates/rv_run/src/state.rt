@@ -19,7 +19,7 @@ use elf_image::Image;
 use rv_decode::{Instr, decode};
 use std::alloc::Global;
 
-/// The machine in the middle of a run.
+/// The machine in the middle of a run. A state borrows the image, whose text no store changes.
 #[derive(Drop)]
 pub struct State<'a> {
     memory: Memory<'a>,
@@ -44,13 +44,14 @@ impl<'a> State<'a> {
         })
     }
 
+    /// Where the next instruction stands.
     pub fn pc(&self) -> u32
         ensures { result ≡ (machine_of self.now).pc }
     {
         self.pc
     }
 
-    /// The word in a register.
+    /// The word in a register, by its number. x0 always has 0.
     pub fn register(&self, number: u8) -> u32
         requires { number < 32 }
         ensures { result ≡ slice_index (machine_of self.now).registers number }
@@ -58,13 +59,14 @@ impl<'a> State<'a> {
         self.registers[number as usize]
     }
 
-    /// The byte at an address.
+    /// The byte of memory at an address, the image's where nothing was stored. No instruction reaches 2^29 or above.
     pub fn byte(&self, address: u32) -> u8
         ensures { result ≡ (machine_of self.now).memory address }
     {
         self.memory.byte(address)
     }
 
+    /// The public bytes so far: zeros, where no reveal has put a word.
     pub fn public(&self) -> [u8; 64]
         ensures { result ≡ (machine_of self.now).public_bytes }
     {

@@ -28,14 +28,14 @@ pub struct Connector {
     pub end_time: u32,
 }
 
-/// How often the row at a place of the program is used.
+/// How often the run uses the row at a place of the program. Places count from 0 in the order of the rows.
 #[derive(Clone, Copy, Debug, PartialEq, Eq)]
 pub struct CountEntry {
     pub place: u32,
     pub count: u32,
 }
 
-/// What a file says.
+/// What a file says, in the order of its bytes. A value need not be of the form: `read_file` gives only such as are.
 #[derive(Drop)]
 pub struct TableFile {
     pub connector: Connector,

@@ -53,7 +53,7 @@ fn push_entries(out: &mut Vec<u8>, entries: &[CountEntry]) -> Result<(), AllocEr
     Ok(())
 }
 
-/// The bytes of a file.
+/// The bytes of a file. They are written also where the value isn't of the form, and then no reader takes them.
 pub fn spelling(alloc: Global, file: &TableFile) -> Result<Vec<u8>, AllocError>
     requires { length file.now.entries.items < 2 ^ 32 }
     ensures { IfOk result (λ bytes. bytes.items ≡ spelling (value_of file.now)) }

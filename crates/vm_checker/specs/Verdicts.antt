@@ -2,7 +2,7 @@
 use Rattle.std.specs.Prelude.{◌≡◌, ◌≢◌, ℕ, Bool, List, [], length, replicate, if◌then◌else◌, Result, IsErrOf, IfOk, IfSome}
 use Rattle.vm_host.specs.declared.Slot.TheVariants.{Second}
 use Rattle.vm_host.specs.State.{HostState}
-use Rattle.vm_host.specs.Calls.{Rose}
+use Rattle.vm_host.specs.Calls.{AtEnd, Rose}
 use Rattle.vm_host.specs.ReadUpTo.{Took}
 use Rattle.air_core.specs.Sheet.{Sheet}
 use Rattle.elf_image.specs.Image.{HasImage}
@@ -41,14 +41,18 @@ pub data Judges (sheet : Sheet) (loaded : Loaded) (bytes : List ℕ) (verdict : 
   no_claim : (v : FileValue) → IsFile (length (program_of loaded)) v → bytes ≡ spelling v → (Accepts sheet (program_of loaded) loaded.entry v → ⊥)
       → verdict ≡ Rejected Claim → Judges sheet loaded bytes verdict
 
--- the verdict is on the bytes of the input's rest, where a host tells them; else there are such bytes
-pub record Judged (sheet : Sheet) (loaded : Loaded) (s : HostState) (verdict : Verdict) : Type 0 where
+-- The verdict is on the bytes of the input's rest, where a host tells them; else there are such bytes.
+-- On the bytes of a file it comes at the input's end, and they are what was taken, told or not. That they
+-- are no file may be seen earlier.
+pub record Judged (sheet : Sheet) (loaded : Loaded) (s t : HostState) (taken : List ℕ) (verdict : Verdict) : Type 0 where
   pub bytes : List ℕ
   pub told : IfSome (s.input Second).rest (λ rest. rest ≡ bytes)
   pub judges : Judges sheet loaded bytes verdict
+  pub exact : verdict ≢ Rejected File → taken ≡ bytes
+  pub end : verdict ≢ Rejected File → AtEnd (t.input Second).rest
 
 pub record Checks (sheet : Sheet) (loaded : Loaded) (s t : HostState) (result : Result Verdict CheckError) : Type 0 where
   -- whatever the answer, the input lost what was read, and nothing else changed
   pub took : (bytes : List ℕ) × Took Second s t bytes
-  pub judged : IfOk result (λ verdict. Judged sheet loaded s verdict)
+  pub judged : IfOk result (λ verdict. Judged sheet loaded s t took.0 verdict)
   pub fault : IsErrOf result Fault → Rose s.faults t.faults

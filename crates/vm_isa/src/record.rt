@@ -2,7 +2,7 @@
 
 use crate::{AccessList, VmInstr};
 
-/// One completed step.
+/// One completed step: all that the table row of the step is made of.
 #[derive(Debug, Drop)]
 pub struct StepRecord {
     pub instr: VmInstr,

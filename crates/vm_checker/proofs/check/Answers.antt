@@ -14,10 +14,10 @@ returns-in-Ok g c =
     let file = rw len at c.in-Ok.ensures.good in
     let runs = accepted_is_run sheet (g.met.C.Chip.fits chip) (g.met.C.Chip.buses chip) (g.met.C.Chip.sound chip) loaded v c.requires.table file in
     record {
-      took = c.read_file.ensures.took;
+      took = c.in-Ok.ensures.took;
       judged = rw c.judge.ensures
-          (judged_file sheet loaded (g.H.Host.state c.args.host.now) v c.in_ok-accepted-in-Ok.accepted runs file
-          c.in-Ok.ensures.whole (rw (c.in_ok-program.ensures.rows, c.entry.ensures) at c.in_ok-accepted-in-Ok.ensures));
+          (judged_file sheet loaded (g.H.Host.state c.args.host.now) (g.H.Host.state c.read_file.new.host) c.in-Ok.ensures.took.0 v c.in_ok-accepted-in-Ok.accepted runs file
+          c.in-Ok.ensures.whole c.in-Ok.ensures.exact c.in-Ok.ensures.end (rw (c.in_ok-program.ensures.rows, c.entry.ensures) at c.in_ok-accepted-in-Ok.ensures));
       fault = λ e. absurd (cc);
     }
 
@@ -26,7 +26,7 @@ returns-in-Err-Refused g c =
     let len = c.len.ensures ∙ ap length c.in_ok-program.ensures.rows in
     record {
       took = c.read_file.ensures.took;
-      judged = judged_no_file (g.C.Chip.sheet c.args.chip.now) c.args.image.now (g.H.Host.state c.args.host.now)
+      judged = judged_no_file (g.C.Chip.sheet c.args.chip.now) c.args.image.now (g.H.Host.state c.args.host.now) (g.H.Host.state c.read_file.new.host) c.read_file.ensures.took.0
           (rw len at ((rw c.in-Err-Refused.field-0-is at c.in-Err-Refused.ensures).refused refl));
       fault = λ e. absurd (cc);
     }
