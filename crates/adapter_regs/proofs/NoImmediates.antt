@@ -7,7 +7,7 @@ use Rattle.vm_field.proofs.Constraints.{gate_off}
 use Rattle.air_core.specs.First.{gated_difference}
 use Rattle.air_core.specs.Sheet.{AllZero, AllBelow}
 use Rattle.air_core.specs.ListLemmas.{all_right}
-use Rattle.gadget_limbs.specs.Limbs.{limbs_from, list_of}
+use Rattle.vm_field.specs.Limbs.{limbs_from, list_of}
 use Rattle.adapter_regs.specs.declared.regs.Regs.{Regs}
 use Rattle.adapter_regs.specs.Regs.{immediate_constraints, regs_filled, regs_cells, regs3_cells, no_limbs}
 

@@ -15,8 +15,8 @@ use Rattle.air_core.specs.Lookups.{Good, GoodEvent}
 use Rattle.air_core.specs.Step.{SoundStep}
 use Rattle.air_core.specs.Hint.{NoHint}
 use Rattle.air_core.specs.Laws.{MayBus}
-use Rattle.gadget_limbs.specs.declared.limbs.Limbs.{Limbs}
-use Rattle.gadget_limbs.specs.Limbs.{list_of, LimbsBelow}
+use Rattle.vm_field.specs.declared.limbs.Limbs.{Limbs}
+use Rattle.vm_field.specs.Limbs.{list_of, LimbsBelow}
 use Rattle.gadget_time.specs.Told.{told_lines}
 use Rattle.gadget_time.specs.Laws.{OffMachine, SaysRecord}
 use Rattle.adapter_regs.specs.declared.regs.Regs.{Regs}
