@@ -14,9 +14,10 @@ use Rattle.air_core.specs.declared.event.Event.{Event}
 use Rattle.air_core.specs.First.{gated_difference}
 use Rattle.air_core.specs.Sheet.{AllZero, AllBelow}
 use Rattle.air_core.specs.ListLemmas.{all_append}
-use Rattle.gadget_limbs.specs.declared.limbs.Limbs.{Limbs}
-use Rattle.gadget_limbs.specs.Limbs.{list_of, limbs_from}
-use Rattle.gadget_limbs.proofs.LimbsLaws.{list_of-from, bytes_below, byte_at, limbs_word}
+use Rattle.vm_field.specs.declared.limbs.Limbs.{Limbs}
+use Rattle.vm_field.specs.Limbs.{list_of, limbs_from}
+use Rattle.vm_field.proofs.LimbLemmas.{list_of-from}
+use Rattle.gadget_limbs.proofs.LimbsLaws.{bytes_below, byte_at, limbs_word}
 use Rattle.gadget_time.specs.Told.{gap_filled, MadeBy, MadeByAll, made}
 use Rattle.gadget_time.specs.Laws.{SaysRecord}
 use Rattle.gadget_time.proofs.Filled.{told_record, gap_below}

@@ -1,5 +1,5 @@
 -- The register form without immediates: the form with those columns 0, which the laws then serve.
-use Rattle.std.proofs.Common.{◌≡◌, ℕ, ◌+◌, ◌<◌, true, ◌++◌, refl}
+use Rattle.std.proofs.Common.{◌≡◌, ℕ, ◌+◌, ◌<◌, true, List, ◌++◌, refl}
 use Rattle.vm_isa.specs.declared.record.StepRecord.{StepRecord}
 use Rattle.vm_isa.specs.Means.{Fillable}
 use Rattle.vm_isa.specs.Opcodes.{is_mul}
@@ -7,9 +7,14 @@ use Rattle.vm_field.proofs.Constraints.{gate_off}
 use Rattle.air_core.specs.First.{gated_difference}
 use Rattle.air_core.specs.Sheet.{AllZero, AllBelow}
 use Rattle.air_core.specs.ListLemmas.{all_right}
-use Rattle.gadget_limbs.specs.Limbs.{limbs_from, list_of}
+use Rattle.vm_field.specs.Limbs.{limbs_from, list_of}
 use Rattle.adapter_regs.specs.declared.regs.Regs.{Regs}
-use Rattle.adapter_regs.specs.Regs.{immediate_constraints, regs_filled, regs_cells, regs3_cells, no_limbs}
+use Rattle.adapter_regs.specs.Regs.{regs3_at, immediate_constraints, regs_filled, regs_cells, regs3_cells, no_limbs}
+
+-- the rows are read so
+pub read_none : (row : List ℕ) (at times : ℕ) → ((regs3_at row at times).use_imm ≡ 0) × ((regs3_at row at times).imm ≡ no_limbs)
+unfolding regs3_at
+read_none row at times = (refl, refl)
 
 -- the constraints of the immediate say nothing
 pub immediates_none : (r : Regs) → r.use_imm ≡ 0 → AllZero (immediate_constraints r)

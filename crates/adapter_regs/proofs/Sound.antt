@@ -16,9 +16,10 @@ use Rattle.air_core.specs.Sheet.{Sheet, OwnsSome, AllZero, counted}
 use Rattle.air_core.specs.Step.{Touched, SoundStep}
 use Rattle.air_core.specs.Hint.{NoHint}
 use Rattle.air_core.specs.Laws.{MayBus}
-use Rattle.gadget_limbs.specs.declared.limbs.Limbs.{Limbs}
-use Rattle.gadget_limbs.specs.Limbs.{list_of, LimbsBelow}
-use Rattle.gadget_limbs.proofs.LimbsLaws.{limbs_of-word, length-list_of}
+use Rattle.vm_field.specs.declared.limbs.Limbs.{Limbs}
+use Rattle.vm_field.specs.Limbs.{list_of, LimbsBelow}
+use Rattle.vm_field.proofs.LimbLemmas.{length-list_of}
+use Rattle.gadget_limbs.proofs.LimbsLaws.{limbs_of-word}
 use Rattle.gadget_time.specs.Told.{Told, told_lines, touched_of}
 use Rattle.gadget_time.specs.Laws.{CountsSmall, OffMachine}
 use Rattle.gadget_time.proofs.ToldLaws.{told_silent, told_step, good_program, told_no_hint, told_uses}

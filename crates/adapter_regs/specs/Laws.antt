@@ -15,12 +15,12 @@ use Rattle.air_core.specs.Lookups.{Good, GoodEvent}
 use Rattle.air_core.specs.Step.{SoundStep}
 use Rattle.air_core.specs.Hint.{NoHint}
 use Rattle.air_core.specs.Laws.{MayBus}
-use Rattle.gadget_limbs.specs.declared.limbs.Limbs.{Limbs}
-use Rattle.gadget_limbs.specs.Limbs.{list_of, LimbsBelow}
+use Rattle.vm_field.specs.declared.limbs.Limbs.{Limbs}
+use Rattle.vm_field.specs.Limbs.{list_of, LimbsBelow}
 use Rattle.gadget_time.specs.Told.{told_lines}
 use Rattle.gadget_time.specs.Laws.{OffMachine, SaysRecord}
 use Rattle.adapter_regs.specs.declared.regs.Regs.{Regs}
-use Rattle.adapter_regs.specs.Regs.{regs_told, immediate_constraints, time_constraints, regs_filled, new_filled, regs_cells, regs3_cells, time_cells, no_limbs}
+use Rattle.adapter_regs.specs.Regs.{regs3_at, regs_told, immediate_constraints, time_constraints, regs_filled, new_filled, regs_cells, regs3_cells, time_cells, no_limbs}
 
 -- the opcodes of the form
 abbrev pub is_register : ℕ → Bool
@@ -93,9 +93,10 @@ abbrev pub ARegisterRowIsNoHint : Type 0
 ARegisterRowIsNoHint = (hi : ℕ) (r : Regs) (valid op : ℕ) (new : Limbs) (others : List Event) → is_register op ≡ true → OffMachine others
     → NoHint (counted (regs_lines hi r valid op new others))
 
--- The form without immediates is the form with `use_imm` and the immediate 0: then the constraints on the
--- immediate are 0, and a record of a multiplication or a division fills such columns.
+-- The form without immediates is the form with `use_imm` and the immediate 0: so its rows are read, then the
+-- constraints on the immediate are 0, and a record of a multiplication or a division fills such columns.
 pub record NoImmediates : Type 0 where
+  pub read : (row : List ℕ) (at times : ℕ) → ((regs3_at row at times).use_imm ≡ 0) × ((regs3_at row at times).imm ≡ no_limbs)
   pub hold : (r : Regs) → r.use_imm ≡ 0 → AllZero (immediate_constraints r)
   pub filled : (hi : ℕ) (done : StepRecord) → Fillable (16 + hi) done → is_mul done.instr.op ≡ true → ((regs_filled done).use_imm ≡ 0) × ((regs_filled done).imm ≡ no_limbs)
   pub cells : (r : Regs) → AllBelow (regs_cells r) → AllBelow (regs3_cells r)

@@ -5,9 +5,9 @@ use Rattle.vm_isa.specs.declared.access.TimedAccess.{TimedAccess}
 use Rattle.vm_isa.specs.declared.record.StepRecord.{StepRecord}
 use Rattle.vm_isa.specs.Instr.{bit_of}
 use Rattle.air_core.specs.declared.event.Event.{Event}
-use Rattle.gadget_limbs.specs.declared.limbs.Limbs.{Limbs}
+use Rattle.vm_field.specs.declared.limbs.Limbs.{Limbs}
 use Rattle.air_core.specs.First.{gated_difference}
-use Rattle.gadget_limbs.specs.Limbs.{limbs_at, limbs_from, list_of}
+use Rattle.vm_field.specs.Limbs.{limbs_at, limbs_from, list_of}
 use Rattle.gadget_time.specs.declared.touch.Touch.{Touch}
 use Rattle.gadget_time.specs.declared.touch.Gap.{Gap}
 use Rattle.gadget_time.specs.Told.{Told, told_front, touch_constraint, gap_filled}

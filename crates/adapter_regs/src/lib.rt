@@ -5,6 +5,8 @@
 pub mod laws;
 mod regs;
 mod step;
+#[cfg(test)]
+mod tests;
 
 pub use regs::{Regs, events, immediate, read, read3, times};
 pub use step::{fill, new_word};

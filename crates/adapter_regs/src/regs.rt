@@ -4,9 +4,8 @@ ghost use Rattle.std.specs.Prelude.{◌≡◌, ℕ, ◌+◌, ◌<◌, ◌≤◌,
 ghost use Rattle.adapter_regs.specs.Regs.{regs_at, regs3_at, gap_at, first_touch, second_touch, third_touch, regs_numbers, immediate_constraints, time_constraints, regs_front};
 
 use air_core::{Event, gated_difference, path_events};
-use gadget_limbs::Limbs;
 use gadget_time::{Gap, Touch, touch_constraint, touch_events};
-use vm_field::Fe;
+use vm_field::{Fe, Limbs};
 
 /// The columns that each table of the register form has.
 #[derive(Clone, Copy, Debug)]

@@ -6,9 +6,8 @@ ghost use Rattle.adapter_regs.specs.Regs.{access_at, last_access, right_filled, 
 
 use crate::Regs;
 use air_core::element;
-use gadget_limbs::Limbs;
 use gadget_time::{Gap, gap_between};
-use vm_field::Fe;
+use vm_field::{Fe, Limbs};
 use vm_isa::{Access, AccessList, StepRecord, TimedAccess};
 
 /// The access at a place, and one of zeros where there is none.

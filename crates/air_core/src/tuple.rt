@@ -3,11 +3,13 @@
 ghost use Rattle.std.specs.Prelude.{◌≡◌, ◌<◌, ◌≤◌, ◌↔◌, ◌==◌, [], IsTrue, length, slice_get};
 ghost use Rattle.std.proofs.Common.{rules};
 ghost use Rattle.std.specs.Cmp.{partial_order_from_own_ties};
-ghost use Rattle.std.specs.Cmp.Rules.{comparing};
+ghost use Rattle.std.specs.Cmp.Rules.{comparing, hashing};
+ghost use Rattle.std.specs.Hash as fed;
 ghost use Rattle.std.specs.Cmp.Lexicographic.{pointwise, slice_cmp};
 ghost use Rattle.std.specs.Ordering.{nat_cmp, on, as_partial_cmp};
 
 use std::cmp::Ordering;
+use std::hash::{Hash, Hasher};
 use std::marker::Model;
 use vm_field::Fe;
 
@@ -16,7 +18,7 @@ pub const MAX_TUPLE: usize = 50;
 
 /// At most fifty numbers, seen as their list, and compared as lists are: by the first number that
 /// differs, and a list before each longer one that it begins.
-#[derive(Clone, Copy, Debug, Hash)]
+#[derive(Clone, Copy, Debug)]
 pub struct Tuple {
     numbers: [u32; MAX_TUPLE],
     len: u32,
@@ -57,11 +59,14 @@ impl Tuple {
         requires { length elements.now ≤ MAX_TUPLE }
         ensures { result ≡ elements.now }
     {
-        let mut all = [0; MAX_TUPLE];
+        let mut numbers = [0; MAX_TUPLE];
         for (i, element) in elements.iter().enumerate() {
-            all[i] = element.value();
+            numbers[i] = element.value();
         }
-        Tuple::of(&all[..elements.len()])
+        Tuple {
+            numbers,
+            len: elements.len() as u32,
+        }
     }
 
     pub fn len(&self) -> u32
@@ -106,6 +111,17 @@ impl PartialEq for Tuple {
 
 impl Eq for Tuple {
     ghost laws = { Prim.search (comparing, rules) };
+}
+
+/// The numbers that the tuple has, and not the places behind them.
+impl Hash for Tuple {
+    ghost hash_input = { fed.slice fed.u32 };
+
+    ghost respects_eq = { Prim.search (hashing, rules) };
+
+    fn hash<H: Hasher>(&self, state: &mut H) {
+        self.as_slice().hash(state);
+    }
 }
 
 impl PartialOrd for Tuple {

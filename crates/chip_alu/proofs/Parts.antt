@@ -3,8 +3,8 @@ use Rattle.std.proofs.Common.{◌≡◌, ℕ, List, length, refl, ap, ◌∙◌,
 use Rattle.air_core.specs.First.{first_from, or_else}
 use Rattle.air_core.specs.Flags.{flag_constraints}
 use Rattle.air_core.proofs.FirstLemmas.{first_from-part}
-use Rattle.gadget_limbs.specs.declared.limbs.Limbs.{Limbs}
-use Rattle.gadget_limbs.specs.Limbs.{list_of}
+use Rattle.vm_field.specs.declared.limbs.Limbs.{Limbs}
+use Rattle.vm_field.specs.Limbs.{list_of}
 use Rattle.gadget_limbs.specs.Sum.{sum_constraints}
 use Rattle.adapter_regs.specs.declared.regs.Regs.{Regs}
 use Rattle.adapter_regs.specs.Regs.{immediate_constraints, time_constraints, regs_front}

@@ -1,15 +1,18 @@
 -- The sheet of ADD, SUB, XOR, OR and AND: pc, t, five flags, the columns of the register form, the four
 -- limbs of the result, and the times of three accesses; 40 columns, 21 constraints, 19 events.
 use Rattle.std.specs.Prelude.{ℕ, ◌+◌, true, nat_eq, List, [], ◌∷◌, ◌++◌, slice_index}
-use Rattle.vm_field.specs.Field.{field_add, field_sub, field_mul}
+use Rattle.vm_field.specs.Field.{field_add}
+use Rattle.vm_field.specs.declared.limbs.Limbs.{Limbs}
 use Rattle.vm_isa.specs.declared.record.StepRecord.{StepRecord}
 use Rattle.vm_isa.specs.Instr.{bit_of}
 use Rattle.vm_isa.specs.Opcodes.{is_from}
 use Rattle.air_core.specs.declared.event.Event.{Event}
 use Rattle.air_core.specs.Sheet.{Sheet, sent}
 use Rattle.air_core.specs.Flags.{flag_constraints, sum_from, weighted_from}
-use Rattle.gadget_limbs.specs.Limbs.{limbs_at, list_of}
+use Rattle.vm_field.specs.Limbs.{limbs_at, list_of}
+use Rattle.gadget_limbs.specs.declared.lookup.OperationFlags.{OperationFlags}
 use Rattle.gadget_limbs.specs.Sum.{sum_constraints}
+use Rattle.gadget_limbs.specs.Lookup.{looked_up}
 use Rattle.gadget_time.specs.Told.{Told, told_lines}
 use Rattle.adapter_regs.specs.Regs.{regs_at, regs_told, immediate_constraints, time_constraints, regs_filled, new_filled, regs_cells, time_cells}
 use Rattle.chip_alu.specs.declared.columns.AluRow.{AluRow}
@@ -37,28 +40,19 @@ alu_valid r = sum_from 0 (alu_flags r)
 unfoldable pub alu_op : AluRow → ℕ
 alu_op r = weighted_from 0 (alu_flags r) (1 ∷ 2 ∷ 3 ∷ 4 ∷ 5 ∷ [])
 
--- arith * a + (valid - arith) * b
-unfoldable pub choose : ℕ → ℕ → ℕ → ℕ → ℕ
-choose valid arith a b = field_add (field_mul arith a) (field_mul (field_sub valid arith) b)
+-- the flags by their operations
+unfoldable pub alu_operation : AluRow → OperationFlags
+alu_operation r = record { valid = alu_valid r; sums = field_add r.add r.sub; xor = r.xor; or = r.or; and = r.and }
 
--- XOR * a + OR * (2a - b - c) + AND * (b + c - 2a)
-unfoldable pub mixed : ℕ → ℕ → ℕ → ℕ → ℕ → ℕ → ℕ
-mixed xor or and a b c =
-    field_add (field_add (field_mul xor a) (field_mul or (field_sub (field_sub (field_mul 2 a) b) c))) (field_mul and (field_sub (field_add b c) (field_mul 2 a)))
+-- the lookup of one limb, and those of all four
+abbrev pub lookup_line : OperationFlags → ℕ → ℕ → ℕ → Event
+lookup_line o a b c = sent 3 o.valid (looked_up o a b c)
 
-unfoldable pub mixed_line : AluRow → ℕ → ℕ → ℕ → Event
-mixed_line r a b c =
-    sent 3 (alu_valid r) (choose (alu_valid r) (field_add r.add r.sub) a b ∷ choose (alu_valid r) (field_add r.add r.sub) a c ∷ mixed r.xor r.or r.and a b c ∷ [])
+unfoldable pub lookup_lines : OperationFlags → Limbs → Limbs → Limbs → List Event
+lookup_lines o a b c = lookup_line o a.x0 b.x0 c.x0 ∷ lookup_line o a.x1 b.x1 c.x1 ∷ lookup_line o a.x2 b.x2 c.x2 ∷ lookup_line o a.x3 b.x3 c.x3 ∷ []
 
--- The lookups of the result, at each limb. A sum or a difference looks up its own limb twice, so it is a
--- byte; a bitwise operation looks up the limbs of its words, and their xor by the result.
-unfoldable pub mixed_lines : AluRow → List Event
-mixed_lines r =
-    mixed_line r r.result.x0 r.regs.left.x0 r.regs.right.x0
-    ∷ mixed_line r r.result.x1 r.regs.left.x1 r.regs.right.x1
-    ∷ mixed_line r r.result.x2 r.regs.left.x2 r.regs.right.x2
-    ∷ mixed_line r r.result.x3 r.regs.left.x3 r.regs.right.x3
-    ∷ []
+abbrev pub mixed_lines : AluRow → List Event
+mixed_lines r = lookup_lines (alu_operation r) r.result r.regs.left r.regs.right
 
 -- all that a row says
 abbrev pub alu_told : AluRow → Told

@@ -12,14 +12,14 @@ use Rattle.air_core.specs.Flags.{flag_constraints}
 use Rattle.air_core.specs.Laws.{Complete}
 use Rattle.air_core.specs.ListLemmas.{all_append}
 use Rattle.air_core.specs.PathLaws.{time_fits}
-use Rattle.gadget_limbs.specs.Limbs.{list_of, limbs_at}
+use Rattle.vm_field.specs.Limbs.{list_of, limbs_at}
 use Rattle.gadget_limbs.proofs.LimbsLaws.{bytes_below}
 use Rattle.gadget_time.specs.Laws.{SaysRecord}
 use Rattle.adapter_regs.specs.Regs.{regs_at, gap_at, regs_told, regs_filled, new_filled, regs_cells, time_cells, immediate_constraints}
 use Rattle.adapter_regs.specs.Laws.{is_register, RegsFilled}
 use Rattle.adapter_regs.proofs.Filled.{regs_filled_holds, regs_say_record}
 use Rattle.chip_alu.specs.declared.columns.AluRow.{AluRow}
-use Rattle.chip_alu.specs.Alu.{alu_sheet, alu_row, row_of_alu, alu_flags, alu_valid, mixed_line, mixed_lines, alu_told, alu_lines, alu_constraints, alu_filled}
+use Rattle.chip_alu.specs.Alu.{alu_sheet, alu_row, row_of_alu, alu_flags, alu_valid, alu_operation, lookup_lines, mixed_lines, alu_told, alu_lines, alu_constraints, alu_filled}
 use Rattle.chip_alu.specs.Results.{mixed_off}
 use Rattle.chip_alu.specs.AluSound.{owned_register}
 use Rattle.chip_alu.specs.Filled.{Own, filled_own, rows_good}
@@ -36,13 +36,13 @@ unfolding alu_filled
 as_filled hi done others h = h
 
 small : (r : AluRow) → alu_valid r ≡ 1 → AllByRecursion (λ e. e.count ≤ 1) (mixed_lines r)
-unfolding mixed_lines mixed_line
+unfolding lookup_lines alu_operation
 small r v = (omega (arith, v), (omega (arith, v), (omega (arith, v), (omega (arith, v), tt))))
 
 says : (hi : ℕ) (done : StepRecord) → hi ≤ 13 → Fillable (16 + hi) done → is_register done.instr.op ≡ true → Own (alu_filled done) done.instr.op → SaysRecord hi done (alu_told (alu_filled done))
 says hi done top f register own =
     let r = alu_filled done in
-    let said = regs_say_record hi done (mixed_lines r) top f register (record { off = mixed_off r; small = small r own.valid; good = rows_good r own.valid own.rows }) in
+    let said = regs_say_record hi done (mixed_lines r) top f register (record { off = mixed_off r; small = small r own.valid; good = rows_good r own.rows }) in
     rw (own.valid, own.op_is) (as_filled hi done (mixed_lines r) said)
 
 -- what the row holds

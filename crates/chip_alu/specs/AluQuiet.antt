@@ -10,7 +10,7 @@ use Rattle.air_core.specs.Flags.{flag_constraints}
 use Rattle.air_core.specs.Laws.{Fits, Owned, Buses, MayBus, Quiet}
 use Rattle.air_core.specs.ListLemmas.{by_zero_test, zero_test, zero_behind, counted_length}
 use Rattle.air_core.specs.FlagLaws.{sum_none}
-use Rattle.gadget_limbs.specs.Limbs.{limbs_at, list_of}
+use Rattle.vm_field.specs.Limbs.{limbs_at, list_of}
 use Rattle.gadget_limbs.specs.Sum.{sum_constraints, carry_out, gated_bit}
 use Rattle.gadget_time.specs.Told.{time_constraint, touch_constraint, touch_lines}
 use Rattle.gadget_time.proofs.ToldLaws.{may_look}
@@ -18,7 +18,7 @@ use Rattle.adapter_regs.specs.Regs.{regs_at, gap_at, immediate_constraints, firs
 use Rattle.adapter_regs.proofs.Opcodes.{three_slots}
 use Rattle.adapter_regs.proofs.Sound.{regs_uses}
 use Rattle.chip_alu.specs.declared.columns.AluRow.{AluRow}
-use Rattle.chip_alu.specs.Alu.{alu_sheet, alu_row, alu_flags, alu_valid, alu_op, alu_lines, alu_constraints, mixed_lines, mixed_line}
+use Rattle.chip_alu.specs.Alu.{alu_sheet, alu_row, alu_flags, alu_valid, alu_op, alu_lines, alu_constraints, lookup_lines, mixed_lines}
 use Rattle.chip_alu.specs.AluSound.{owned_register, silent}
 
 -- Law Fits
@@ -38,7 +38,7 @@ alu_fits hi low high = record {
 -- Law Buses
 
 mixed_uses : (hi : ℕ) (r : AluRow) → AllByRecursion (MayBus (alu_sheet hi)) (mixed_lines r)
-unfolding mixed_lines mixed_line
+unfolding lookup_lines
 mixed_uses hi r = (
   may_look (alu_sheet hi) 3 _ _ (lit≤ tt) (lit< tt),
   (
@@ -52,7 +52,7 @@ unfolding alu_lines
 uses hi r = regs_uses hi (alu_sheet hi) r.regs (alu_valid r) (alu_op r) r.result (mixed_lines r) (1, refl) (mixed_uses hi r)
 
 nineteen : (hi : ℕ) (r : AluRow) → length (alu_lines hi r) ≡ 19
-unfolding alu_lines path_lines touch_lines mixed_lines
+unfolding alu_lines path_lines touch_lines lookup_lines
 nineteen hi r = refl
 
 pub alu_buses : (hi : ℕ) → Buses (alu_sheet hi)

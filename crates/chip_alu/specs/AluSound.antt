@@ -14,7 +14,7 @@ use Rattle.air_core.specs.Laws.{Timed, Sound}
 use Rattle.air_core.specs.ListLemmas.{all_left, all_right, below_at}
 use Rattle.air_core.specs.FlagLaws.{flag_cases}
 use Rattle.air_core.specs.SoundLaws.{timed_of_sound}
-use Rattle.gadget_limbs.specs.Limbs.{list_of, LimbsBelow}
+use Rattle.vm_field.specs.Limbs.{list_of, LimbsBelow}
 use Rattle.gadget_limbs.specs.Sum.{sum_constraints}
 use Rattle.gadget_limbs.proofs.LimbsLaws.{limbs_at_below}
 use Rattle.gadget_time.proofs.ToldLaws.{good_others}
@@ -97,19 +97,19 @@ module _ (hi : ℕ) (r : AluRow) (top : hi ≤ 13) (p : Parts r) (b : Below r) (
   unfolding alu_flags
   alu_step (inl (add, (sub, (xor, (or, (and, _)))))) =
       let s : Set r 1 0 0 0 0 = record { is_add = add; is_sub = sub; is_xor = xor; is_or = or; is_and = and } in
-      step_at 1 (op_set r 1 0 0 0 0 s) refl (add_result r s b.result_below lookups p.sums)
+      step_at 1 (op_set r 1 0 0 0 0 s) refl (add_result r v s b.result_below lookups p.sums)
   alu_step (inr (add, inl (sub, (xor, (or, (and, _)))))) =
       let s : Set r 0 1 0 0 0 = record { is_add = add; is_sub = sub; is_xor = xor; is_or = or; is_and = and } in
-      step_at 2 (op_set r 0 1 0 0 0 s) refl (sub_result r s b.result_below lookups p.differences)
+      step_at 2 (op_set r 0 1 0 0 0 s) refl (sub_result r v s b.result_below lookups p.differences)
   alu_step (inr (add, inr (sub, inl (xor, (or, (and, _)))))) =
       let s : Set r 0 0 1 0 0 = record { is_add = add; is_sub = sub; is_xor = xor; is_or = or; is_and = and } in
-      step_at 3 (op_set r 0 0 1 0 0 s) refl (xor_result r s b.result_below lookups)
+      step_at 3 (op_set r 0 0 1 0 0 s) refl (xor_result r v s b.result_below lookups)
   alu_step (inr (add, inr (sub, inr (xor, inl (or, (and, _)))))) =
       let s : Set r 0 0 0 1 0 = record { is_add = add; is_sub = sub; is_xor = xor; is_or = or; is_and = and } in
-      step_at 4 (op_set r 0 0 0 1 0 s) refl (or_result r s b.result_below lookups)
+      step_at 4 (op_set r 0 0 0 1 0 s) refl (or_result r v s b.result_below lookups)
   alu_step (inr (add, inr (sub, inr (xor, inr (or, inl (and, _)))))) =
       let s : Set r 0 0 0 0 1 = record { is_add = add; is_sub = sub; is_xor = xor; is_or = or; is_and = and } in
-      step_at 5 (op_set r 0 0 0 0 1 s) refl (and_result r s b.result_below lookups)
+      step_at 5 (op_set r 0 0 0 0 1 s) refl (and_result r v s b.result_below lookups)
   alu_step (inr (add, inr (sub, inr (xor, inr (or, inr (and, none)))))) = absurd none
 
 pub silent : (hi : ℕ) (r : AluRow) → alu_valid r ≡ 0 → counted (alu_lines hi r) ≡ []

@@ -2,10 +2,8 @@
 use Rattle.std.specs.Prelude.{◌≡◌, ◌≢◌, ℕ, ◌+◌, ◌*◌, ◌^◌, ◌<◌, ◌≤◌, true, nat_eq, nat_le, List, [], ◌∷◌, bit_xor, bit_or, bit_and, refl}
 use Rattle.std.specs.List.{AllByRecursion}
 use Rattle.std.proofs.Common.{sym, ap, subst, ◌∙◌, ⊎_elim, arith, lit≤}
-use lib.Bits.{xor_self}
 use Rattle.std.proofs.lemmas.Bool.{cases_eq, and_parts, leb-true}
-use Rattle.std.proofs.lemmas.Nat.{xor_of_8, or_of_8, and_le_l}
-use Rattle.vm_field.specs.Field.{field_add}
+use Rattle.std.proofs.lemmas.Nat.{xor_of_8, or_of_8}
 use Rattle.vm_word.specs.Word.{word_of_limbs, limbs_of}
 use Rattle.vm_word.specs.Arithmetic.{word_sum, word_difference}
 use Rattle.vm_word.proofs.WordLemmas.{word_of_limbs-limbs_of}
@@ -19,16 +17,20 @@ use Rattle.air_core.specs.Flags.{flag_constraints, sum_from}
 use Rattle.air_core.specs.Lookups.{GoodEvent, IsXorRow}
 use Rattle.air_core.specs.ListLemmas.{by_zero_test, zero_test}
 use Rattle.air_core.proofs.LookupLemmas.{good_xor}
-use Rattle.gadget_limbs.specs.Limbs.{list_of}
+use Rattle.vm_field.specs.Limbs.{list_of}
+use Rattle.gadget_limbs.specs.declared.lookup.OperationFlags.{OperationFlags}
 use Rattle.gadget_limbs.specs.Sum.{sum_constraints}
+use Rattle.gadget_limbs.specs.Lookup.{looked_up}
+use Rattle.gadget_limbs.specs.Laws.{flags_of}
 use Rattle.gadget_limbs.proofs.LimbsLaws.{word_below, limbs_of-word}
 use Rattle.gadget_limbs.proofs.SumHolds.{sum_holds_word, sum_off}
-use Rattle.gadget_limbs.proofs.BitLaws.{byte_bits, WordByBytes, xor_word, or_word, and_word}
+use Rattle.gadget_limbs.proofs.BitLaws.{WordByBytes, xor_word, or_word, and_word}
+use Rattle.gadget_limbs.proofs.LookupLaws.{right_limb}
 use Rattle.adapter_regs.specs.Regs.{regs_filled, new_filled}
 use Rattle.adapter_regs.specs.Laws.{result, RegsFilled}
 use Rattle.chip_alu.specs.declared.columns.AluRow.{AluRow}
-use Rattle.chip_alu.specs.Alu.{alu_flags, alu_valid, alu_op, choose, mixed, mixed_line, mixed_lines, alu_filled}
-use Rattle.chip_alu.specs.Results.{Set, op_set, mixed_xor, choose_result, choose_word, result_add, result_sub, result_xor, result_or, result_and}
+use Rattle.chip_alu.specs.Alu.{alu_flags, alu_valid, alu_op, alu_operation, lookup_lines, mixed_lines, alu_filled}
+use Rattle.chip_alu.specs.Results.{Set, op_set, operation_set, LimbGood, LimbOf, MixedGood, and_of_8, result_add, result_sub, result_xor, result_or, result_and}
 
 -- Flags.
 
@@ -43,48 +45,15 @@ flags_set r add sub xor or and s = rw (s.is_add, s.is_sub, s.is_xor, s.is_or, s.
 flags_hold : (flags : List ℕ) → zero_test (flag_constraints flags) ≡ true → (r : AluRow) → alu_flags r ≡ flags → AllZero (flag_constraints (alu_flags r))
 flags_hold flags test r e = subst (λ (xs : List ℕ). AllZero (flag_constraints xs)) (sym e) (by_zero_test (flag_constraints flags) test)
 
--- Lookups of one limb, over plain numbers.
+-- Lookups.
 
-mixed_none : (a b c : ℕ) → mixed 0 0 0 a b c ≡ 0
-unfolding mixed
-mixed_none a b c = omega arith
+-- what is looked up of a limb, from the operation
+limb_back : (r : AluRow) (sums xor or and a b c : ℕ) → alu_operation r ≡ flags_of sums xor or and → LimbOf sums xor or and a b c → LimbGood r a b c
+limb_back r sums xor or and a b c is row = subst (λ (o : OperationFlags). IsXorRow (looked_up o a b c)) (sym is) row
 
-mixed_or : (a b c x n : ℕ) → x < 256 → n < 256 → b + c ≡ x + 2 * n → a ≡ x + n → mixed 0 1 0 a b c ≡ x
-unfolding mixed
-mixed_or a b c x n p q e f = omega arith
-
-mixed_and : (a b c x n : ℕ) → x < 256 → n < 256 → b + c ≡ x + 2 * n → a ≡ n → mixed 0 0 1 a b c ≡ x
-unfolding mixed
-mixed_and a b c x n p q e f = omega arith
-
-xor_row : (x y z b c : ℕ) → x ≡ b → y ≡ c → z ≡ bit_xor b c → b < 256 → c < 256 → IsXorRow (x ∷ y ∷ z ∷ [])
-xor_row x y z b c e f g p q = record { x = b; y = c; x_byte = p; y_byte = q; is = rw (e, f, g) refl }
-
--- the row's lookup at a limb is good
-abbrev pub LimbRow : AluRow → ℕ → ℕ → ℕ → Type 0
-LimbRow r a b c = IsXorRow (choose 1 (field_add r.add r.sub) a b ∷ choose 1 (field_add r.add r.sub) a c ∷ mixed r.xor r.or r.and a b c ∷ [])
-
-arith_row : (r : AluRow) (a b c : ℕ) → field_add r.add r.sub ≡ 1 → r.xor ≡ 0 → r.or ≡ 0 → r.and ≡ 0 → a < 256 → LimbRow r a b c
-arith_row r a b c one x o n p =
-    xor_row _ _ _ a a (choose_result (field_add r.add r.sub) a b one (omega arith)) (choose_result (field_add r.add r.sub) a c one (omega arith)) (rw (x, o, n) (mixed_none a b c ∙ sym (xor_self a))) p p
-
-bits_row : (r : AluRow) (a b c : ℕ) → field_add r.add r.sub ≡ 0 → mixed r.xor r.or r.and a b c ≡ bit_xor b c → b < 256 → c < 256 → LimbRow r a b c
-bits_row r a b c none e p q =
-    xor_row _ _ _ b c (choose_word (field_add r.add r.sub) a b none (omega arith)) (choose_word (field_add r.add r.sub) a c none (omega arith)) e p q
-
-pub record Rows (r : AluRow) : Type 0 where
-  pub x0 : LimbRow r r.result.x0 r.regs.left.x0 r.regs.right.x0
-  pub x1 : LimbRow r r.result.x1 r.regs.left.x1 r.regs.right.x1
-  pub x2 : LimbRow r r.result.x2 r.regs.left.x2 r.regs.right.x2
-  pub x3 : LimbRow r r.result.x3 r.regs.left.x3 r.regs.right.x3
-
-line_good : (r : AluRow) (a b c : ℕ) → alu_valid r ≡ 1 → LimbRow r a b c → GoodEvent (mixed_line r a b c)
-unfolding mixed_line
-line_good r a b c v row = good_xor _ refl (rw v row)
-
-pub rows_good : (r : AluRow) → alu_valid r ≡ 1 → Rows r → AllByRecursion (λ e. e.count ≢ 0 → GoodEvent e) (mixed_lines r)
-unfolding mixed_lines
-rows_good r v rows = (λ n. line_good r _ _ _ v rows.x0, (λ n. line_good r _ _ _ v rows.x1, (λ n. line_good r _ _ _ v rows.x2, (λ n. line_good r _ _ _ v rows.x3, tt))))
+pub rows_good : (r : AluRow) → MixedGood r → AllByRecursion (λ e. e.count ≢ 0 → GoodEvent e) (mixed_lines r)
+unfolding lookup_lines
+rows_good r rows = (λ n. good_xor _ refl rows.x0, (λ n. good_xor _ refl rows.x1, (λ n. good_xor _ refl rows.x2, (λ n. good_xor _ refl rows.x3, tt))))
 
 -- What the operations show of the filled columns: constraints of sums and differences, and lookups.
 
@@ -95,7 +64,7 @@ pub record Own (r : AluRow) (op : ℕ) : Type 0 where
   pub flags_below : AllBelow (alu_flags r)
   pub sums : AllZero (sum_constraints r.add 0 (list_of r.regs.left) (list_of r.regs.right) (list_of r.result))
   pub differences : AllZero (sum_constraints r.sub 0 (list_of r.result) (list_of r.regs.right) (list_of r.regs.left))
-  pub rows : Rows r
+  pub rows : MixedGood r
 
 -- what is known of the words
 record Words (r : AluRow) (op : ℕ) : Type 0 where
@@ -110,13 +79,17 @@ off_sums r e = rw e (sum_off 0 (list_of r.regs.left) (list_of r.regs.right) (lis
 off_differences : (r : AluRow) → r.sub ≡ 0 → AllZero (sum_constraints r.sub 0 (list_of r.result) (list_of r.regs.right) (list_of r.regs.left))
 off_differences r e = rw e (sum_off 0 (list_of r.result) (list_of r.regs.right) (list_of r.regs.left))
 
-arith_rows : (r : AluRow) → field_add r.add r.sub ≡ 1 → r.xor ≡ 0 → r.or ≡ 0 → r.and ≡ 0 → IsBytes (list_of r.result) → Rows r
+-- limbs of a sum or a difference are bytes
+byte_limb : (r : AluRow) (a b c : ℕ) → alu_operation r ≡ flags_of 1 0 0 0 → a < 256 → b < 256 → c < 256 → LimbGood r a b c
+byte_limb r a b c is byte p q = limb_back r 1 0 0 0 a b c is ((right_limb a b c (omega arith) p q).sum.1 byte)
+
+sum_rows : (r : AluRow) → alu_operation r ≡ flags_of 1 0 0 0 → IsBytes (list_of r.result) → IsBytes (list_of r.regs.left) → IsBytes (list_of r.regs.right) → MixedGood r
 unfolding list_of
-arith_rows r one x o n h = record {
-  x0 = arith_row r _ _ _ one x o n h.0;
-  x1 = arith_row r _ _ _ one x o n h.1.0;
-  x2 = arith_row r _ _ _ one x o n h.1.1.0;
-  x3 = arith_row r _ _ _ one x o n h.1.1.1.0;
+sum_rows r is h b c = record {
+  x0 = byte_limb r _ _ _ is h.0 b.0 c.0;
+  x1 = byte_limb r _ _ _ is h.1.0 b.1.0 c.1.0;
+  x2 = byte_limb r _ _ _ is h.1.1.0 b.1.1.0 c.1.1.0;
+  x3 = byte_limb r _ _ _ is h.1.1.1.0 b.1.1.1.0 c.1.1.1.0;
 }
 
 small_flags : (r : AluRow) (add sub xor or and : ℕ) → Set r add sub xor or and → add ≤ 1 → sub ≤ 1 → xor ≤ 1 → or ≤ 1 → and ≤ 1 → AllBelow (alu_flags r)
@@ -131,7 +104,6 @@ new_word r op n w e low = ap word_of_limbs (w.result_is ∙ ap limbs_of e) ∙ w
 add_own : (r : AluRow) → Set r 1 0 0 0 0 → Words r 1 → Own r 1
 unfolding flag_constraints bit zero_test
 add_own r s w =
-    let one : field_add r.add r.sub ≡ 1 = omega (arith, s.is_add, s.is_sub) in
     let b = word_of_limbs (list_of r.regs.left) in
     let c = word_of_limbs (list_of r.regs.right) in
     let number : word_of_limbs (list_of r.result) ≡ word_sum b c = new_word r 1 (word_sum b c) w (result_add b c) (omega arith) in
@@ -142,7 +114,7 @@ add_own r s w =
       flags_below = small_flags r 1 0 0 0 0 s (lit≤ tt) (lit≤ tt) (lit≤ tt) (lit≤ tt) (lit≤ tt);
       sums = sum_holds_word r.add r.regs.left r.regs.right r.result w.left w.right w.new number;
       differences = off_differences r s.is_sub;
-      rows = arith_rows r one s.is_xor s.is_or s.is_and w.new;
+      rows = sum_rows r (operation_set r 1 0 0 0 0 s (valid_set r 1 0 0 0 0 s)) w.new w.left w.right;
     }
 
 back_sum : (b c a : ℕ) → b < 2 ^ 32 → c < 2 ^ 32 → a ≡ word_difference b c → b ≡ word_sum a c
@@ -151,7 +123,6 @@ back_sum b c a p q e = omega arith
 sub_own : (r : AluRow) → Set r 0 1 0 0 0 → Words r 2 → Own r 2
 unfolding flag_constraints bit zero_test
 sub_own r s w =
-    let one : field_add r.add r.sub ≡ 1 = omega (arith, s.is_add, s.is_sub) in
     let b = word_of_limbs (list_of r.regs.left) in
     let c = word_of_limbs (list_of r.regs.right) in
     let number : word_of_limbs (list_of r.result) ≡ word_difference b c = new_word r 2 (word_difference b c) w (result_sub b c) (omega arith) in
@@ -163,7 +134,7 @@ sub_own r s w =
       sums = off_sums r s.is_add;
       differences = sum_holds_word r.sub r.result r.regs.right r.regs.left w.new w.right w.left
           (back_sum b c (word_of_limbs (list_of r.result)) (word_below r.regs.left w.left) (word_below r.regs.right w.right) number);
-      rows = arith_rows r one s.is_xor s.is_or s.is_and w.new;
+      rows = sum_rows r (operation_set r 0 1 0 0 0 s (valid_set r 0 1 0 0 0 s)) w.new w.left w.right;
     }
 
 -- the limbs of a bitwise result
@@ -190,29 +161,25 @@ each_limb r f op byte word same w =
     let parts = four_same _ _ _ _ _ _ _ _ e in
     record { x0 = parts.0; x1 = parts.1; x2 = parts.2; x3 = parts.3 }
 
-and_of_8 : (b c : ℕ) → b < 256 → c < 256 → bit_and b c < 256
-and_of_8 b c p q = omega (arith, and_le_l b c)
+-- a limb that is the result of a bitwise operation
+xor_back : (r : AluRow) (a b c : ℕ) → alu_operation r ≡ flags_of 0 1 0 0 → a < 256 → b < 256 → c < 256 → a ≡ bit_xor b c → LimbGood r a b c
+xor_back r a b c is byte p q e = limb_back r 0 1 0 0 a b c is ((right_limb a b c (omega arith) p q).xor.1 e)
 
-xor_at : (a b c : ℕ) → b < 256 → c < 256 → a ≡ bit_xor b c → mixed 1 0 0 a b c ≡ bit_xor b c
-xor_at a b c p q e = mixed_xor a b c (omega (arith, e, xor_of_8 b c p q)) ∙ e
+or_back : (r : AluRow) (a b c : ℕ) → alu_operation r ≡ flags_of 0 0 1 0 → a < 256 → b < 256 → c < 256 → a ≡ bit_or b c → LimbGood r a b c
+or_back r a b c is byte p q e = limb_back r 0 0 1 0 a b c is ((right_limb a b c (omega arith) p q).or.1 e)
 
-or_at : (a b c : ℕ) → b < 256 → c < 256 → a ≡ bit_or b c → mixed 0 1 0 a b c ≡ bit_xor b c
-or_at a b c p q e = let bits = byte_bits b c p q in mixed_or a b c (bit_xor b c) (bit_and b c) (xor_of_8 b c p q) (and_of_8 b c p q) bits.0 (e ∙ bits.1)
+and_back : (r : AluRow) (a b c : ℕ) → alu_operation r ≡ flags_of 0 0 0 1 → a < 256 → b < 256 → c < 256 → a ≡ bit_and b c → LimbGood r a b c
+and_back r a b c is byte p q e = limb_back r 0 0 0 1 a b c is ((right_limb a b c (omega arith) p q).and.1 e)
 
-and_at : (a b c : ℕ) → b < 256 → c < 256 → a ≡ bit_and b c → mixed 0 0 1 a b c ≡ bit_xor b c
-and_at a b c p q e = mixed_and a b c (bit_xor b c) (bit_and b c) (xor_of_8 b c p q) (and_of_8 b c p q) (byte_bits b c p q).0 e
-
-bits_rows : (r : AluRow) (f : ℕ → ℕ → ℕ) (xor or and : ℕ) → Set r 0 0 xor or and → Each r f → IsBytes (list_of r.regs.left) → IsBytes (list_of r.regs.right)
-    → ((a b c : ℕ) → b < 256 → c < 256 → a ≡ f b c → mixed xor or and a b c ≡ bit_xor b c) → Rows r
+bits_rows : (r : AluRow) (f : ℕ → ℕ → ℕ) → Each r f → IsBytes (list_of r.result) → IsBytes (list_of r.regs.left) → IsBytes (list_of r.regs.right)
+    → ((a b c : ℕ) → a < 256 → b < 256 → c < 256 → a ≡ f b c → LimbGood r a b c) → MixedGood r
 unfolding list_of
-bits_rows r f xor or and s each b c at =
-    let none : field_add r.add r.sub ≡ 0 = omega (arith, s.is_add, s.is_sub) in
-    record {
-      x0 = bits_row r _ _ _ none (rw (s.is_xor, s.is_or, s.is_and) (at _ _ _ b.0 c.0 each.x0)) b.0 c.0;
-      x1 = bits_row r _ _ _ none (rw (s.is_xor, s.is_or, s.is_and) (at _ _ _ b.1.0 c.1.0 each.x1)) b.1.0 c.1.0;
-      x2 = bits_row r _ _ _ none (rw (s.is_xor, s.is_or, s.is_and) (at _ _ _ b.1.1.0 c.1.1.0 each.x2)) b.1.1.0 c.1.1.0;
-      x3 = bits_row r _ _ _ none (rw (s.is_xor, s.is_or, s.is_and) (at _ _ _ b.1.1.1.0 c.1.1.1.0 each.x3)) b.1.1.1.0 c.1.1.1.0;
-    }
+bits_rows r f each h b c at = record {
+  x0 = at _ _ _ h.0 b.0 c.0 each.x0;
+  x1 = at _ _ _ h.1.0 b.1.0 c.1.0 each.x1;
+  x2 = at _ _ _ h.1.1.0 b.1.1.0 c.1.1.0 each.x2;
+  x3 = at _ _ _ h.1.1.1.0 b.1.1.1.0 c.1.1.1.0 each.x3;
+}
 
 xor_own : (r : AluRow) → Set r 0 0 1 0 0 → Words r 3 → Own r 3
 unfolding flag_constraints bit zero_test
@@ -223,7 +190,7 @@ xor_own r s w = record {
   flags_below = small_flags r 0 0 1 0 0 s (lit≤ tt) (lit≤ tt) (lit≤ tt) (lit≤ tt) (lit≤ tt);
   sums = off_sums r s.is_add;
   differences = off_differences r s.is_sub;
-  rows = bits_rows r bit_xor 1 0 0 s (each_limb r bit_xor 3 xor_of_8 xor_word result_xor w) w.left w.right xor_at;
+  rows = bits_rows r bit_xor (each_limb r bit_xor 3 xor_of_8 xor_word result_xor w) w.new w.left w.right (λ a b c. xor_back r a b c (operation_set r 0 0 1 0 0 s (valid_set r 0 0 1 0 0 s)));
 }
 
 or_own : (r : AluRow) → Set r 0 0 0 1 0 → Words r 4 → Own r 4
@@ -235,7 +202,7 @@ or_own r s w = record {
   flags_below = small_flags r 0 0 0 1 0 s (lit≤ tt) (lit≤ tt) (lit≤ tt) (lit≤ tt) (lit≤ tt);
   sums = off_sums r s.is_add;
   differences = off_differences r s.is_sub;
-  rows = bits_rows r bit_or 0 1 0 s (each_limb r bit_or 4 or_of_8 or_word result_or w) w.left w.right or_at;
+  rows = bits_rows r bit_or (each_limb r bit_or 4 or_of_8 or_word result_or w) w.new w.left w.right (λ a b c. or_back r a b c (operation_set r 0 0 0 1 0 s (valid_set r 0 0 0 1 0 s)));
 }
 
 and_own : (r : AluRow) → Set r 0 0 0 0 1 → Words r 5 → Own r 5
@@ -247,7 +214,7 @@ and_own r s w = record {
   flags_below = small_flags r 0 0 0 0 1 s (lit≤ tt) (lit≤ tt) (lit≤ tt) (lit≤ tt) (lit≤ tt);
   sums = off_sums r s.is_add;
   differences = off_differences r s.is_sub;
-  rows = bits_rows r bit_and 0 0 1 s (each_limb r bit_and 5 and_of_8 and_word result_and w) w.left w.right and_at;
+  rows = bits_rows r bit_and (each_limb r bit_and 5 and_of_8 and_word result_and w) w.new w.left w.right (λ a b c. and_back r a b c (operation_set r 0 0 0 0 1 s (valid_set r 0 0 0 0 1 s)));
 }
 
 -- The filled columns, by the opcode.

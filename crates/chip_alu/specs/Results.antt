@@ -1,7 +1,7 @@
 -- What the flag and the lookups of a valid row say of its result: that it is its operation's.
 use Rattle.std.specs.Prelude.{◌≡◌, ◌≢◌, ℕ, ◌+◌, ◌*◌, ◌^◌, ◌<◌, [], ◌∷◌, bit_xor, bit_or, bit_and, refl}
 use Rattle.std.specs.List.{AllByRecursion}
-use Rattle.std.proofs.Common.{sym, ap, ◌∙◌, arith, lit≤}
+use Rattle.std.proofs.Common.{sym, ap, subst, ◌∙◌, arith, lit≤}
 use Rattle.std.proofs.lemmas.Nat.{xor_of_8, or_of_8, and_le_l}
 use Rattle.vm_field.specs.Field.{modulus, field_add, field_mul}
 use Rattle.vm_word.specs.Word.{word_of_limbs}
@@ -10,30 +10,33 @@ use Rattle.vm_isa.specs.Words.{IsBytes}
 use Rattle.vm_isa.specs.Results.{alu}
 use Rattle.air_core.specs.Sheet.{AllZero}
 use Rattle.air_core.specs.Lookups.{GoodEvent, IsXorRow}
-use Rattle.air_core.proofs.LookupLemmas.{XorGood, xor_good}
-use Rattle.gadget_limbs.specs.Limbs.{list_of, LimbsBelow}
+use Rattle.vm_field.specs.Limbs.{list_of, LimbsBelow}
+use Rattle.gadget_limbs.specs.declared.lookup.OperationFlags.{OperationFlags}
 use Rattle.gadget_limbs.specs.Sum.{sum_constraints}
+use Rattle.gadget_limbs.specs.Lookup.{looked_up}
+use Rattle.gadget_limbs.specs.Laws.{flags_of}
 use Rattle.gadget_limbs.proofs.LimbsLaws.{word_below}
 use Rattle.gadget_limbs.proofs.SumLaw.{sum_law_word}
-use Rattle.gadget_limbs.proofs.BitLaws.{byte_bits, WordByBytes, xor_word, or_word, and_word}
+use Rattle.gadget_limbs.proofs.BitLaws.{WordByBytes, xor_word, or_word, and_word}
+use Rattle.gadget_limbs.proofs.LookupLaws.{right_limb}
 use Rattle.gadget_time.specs.Laws.{OffMachine}
 use Rattle.adapter_regs.specs.Laws.{result, RegsResult}
 use Rattle.chip_alu.specs.declared.columns.AluRow.{AluRow}
-use Rattle.chip_alu.specs.Alu.{alu_flags, alu_valid, alu_op, choose, mixed, mixed_line, mixed_lines}
+use Rattle.chip_alu.specs.Alu.{alu_flags, alu_valid, alu_op, alu_operation, lookup_lines, mixed_lines}
 
 -- The lookups.
 
 pub mixed_off : (r : AluRow) → OffMachine (mixed_lines r)
-unfolding mixed_lines mixed_line
+unfolding lookup_lines
 mixed_off r = (lit≤ tt, (lit≤ tt, (lit≤ tt, (lit≤ tt, tt))))
 
 pub mixed_quiet : (r : AluRow) → alu_valid r ≡ 0 → AllByRecursion (λ e. e.count ≡ 0) (mixed_lines r)
-unfolding mixed_lines mixed_line
+unfolding lookup_lines alu_operation
 mixed_quiet r h = (h, (h, (h, (h, tt))))
 
--- one limb's lookup, at a valid row
+-- what is looked up of one limb stands in the xor table
 abbrev pub LimbGood : AluRow → ℕ → ℕ → ℕ → Type 0
-LimbGood r a b c = XorGood (choose 1 (field_add r.add r.sub) a b) (choose 1 (field_add r.add r.sub) a c) (mixed r.xor r.or r.and a b c)
+LimbGood r a b c = IsXorRow (looked_up (alu_operation r) a b c)
 
 pub record MixedGood (r : AluRow) : Type 0 where
   pub x0 : LimbGood r r.result.x0 r.regs.left.x0 r.regs.right.x0
@@ -41,44 +44,15 @@ pub record MixedGood (r : AluRow) : Type 0 where
   pub x2 : LimbGood r r.result.x2 r.regs.left.x2 r.regs.right.x2
   pub x3 : LimbGood r r.result.x3 r.regs.left.x3 r.regs.right.x3
 
-limb_good : (r : AluRow) (a b c : ℕ) → alu_valid r ≡ 1 → ((mixed_line r a b c).count ≢ 0 → GoodEvent (mixed_line r a b c)) → LimbGood r a b c
-unfolding mixed_line
-limb_good r a b c v good =
-    let at : IsXorRow (choose (alu_valid r) (field_add r.add r.sub) a b ∷ choose (alu_valid r) (field_add r.add r.sub) a c ∷ mixed r.xor r.or r.and a b c ∷ []) = (good (omega arith)).xor refl in
-    xor_good _ _ _ (rw v at at)
+is_counted : (r : AluRow) → alu_valid r ≡ 1 → (alu_operation r).valid ≢ 0
+unfolding alu_operation
+is_counted r v = omega arith
 
 pub mixed_good : (r : AluRow) → alu_valid r ≡ 1 → AllByRecursion (λ e. e.count ≢ 0 → GoodEvent e) (mixed_lines r) → MixedGood r
-unfolding mixed_lines
-mixed_good r v good = record {
-  x0 = limb_good r _ _ _ v good.0;
-  x1 = limb_good r _ _ _ v good.1.0;
-  x2 = limb_good r _ _ _ v good.1.1.0;
-  x3 = limb_good r _ _ _ v good.1.1.1.0;
-}
-
--- One limb, over plain numbers.
-
-pub choose_result : (arith a b : ℕ) → arith ≡ 1 → a < modulus → choose 1 arith a b ≡ a
-unfolding choose
-choose_result k a b one below = rw one (omega arith)
-
-pub choose_word : (arith a b : ℕ) → arith ≡ 0 → b < modulus → choose 1 arith a b ≡ b
-unfolding choose
-choose_word k a b none below = rw none (omega arith)
-
-pub mixed_xor : (a b c : ℕ) → a < modulus → mixed 1 0 0 a b c ≡ a
-unfolding mixed
-mixed_xor a b c below = omega arith
-
--- where 2a - b - c is the xor of two bytes, a is their or
-mixed_or : (a b c x n o : ℕ) → a < modulus → b < 256 → c < 256 → x < 256 → n < 256 → b + c ≡ x + 2 * n → o ≡ x + n → mixed 0 1 0 a b c ≡ x → a ≡ o
-unfolding mixed
-mixed_or a b c x n o below p q r s e f h = omega arith
-
--- where b + c - 2a is, it is their and
-mixed_and : (a b c x n : ℕ) → a < modulus → b < 256 → c < 256 → x < 256 → n < 256 → b + c ≡ x + 2 * n → mixed 0 0 1 a b c ≡ x → a ≡ n
-unfolding mixed
-mixed_and a b c x n below p q r s e h = omega arith
+unfolding lookup_lines
+mixed_good r v good =
+    let some = is_counted r v in
+    record { x0 = (good.0 some).xor refl; x1 = (good.1.0 some).xor refl; x2 = (good.1.1.0 some).xor refl; x3 = (good.1.1.1.0 some).xor refl }
 
 -- a flag set, and the others not
 pub record Set (r : AluRow) (add sub xor or and : ℕ) : Type 0 where
@@ -93,15 +67,33 @@ pub op_set : (r : AluRow) (add sub xor or and : ℕ) → Set r add sub xor or an
 unfolding alu_op alu_flags
 op_set r add sub xor or and s = rw (s.is_add, s.is_sub, s.is_xor, s.is_or, s.is_and) refl
 
+-- the flags of a valid row, by its operation
+pub operation_set : (r : AluRow) (add sub xor or and : ℕ) → Set r add sub xor or and → alu_valid r ≡ 1 → alu_operation r ≡ flags_of (field_add add sub) xor or and
+unfolding alu_operation
+operation_set r add sub xor or and s v = rw (v, s.is_add, s.is_sub, s.is_xor, s.is_or, s.is_and) refl
+
+-- what is looked up of a limb, where the operation is known
+abbrev pub LimbOf : ℕ → ℕ → ℕ → ℕ → ℕ → ℕ → ℕ → Type 0
+LimbOf sums xor or and a b c = IsXorRow (looked_up (flags_of sums xor or and) a b c)
+
+pub limb_of : (r : AluRow) (sums xor or and a b c : ℕ) → alu_operation r ≡ flags_of sums xor or and → LimbGood r a b c → LimbOf sums xor or and a b c
+limb_of r sums xor or and a b c is good = subst (λ (o : OperationFlags). IsXorRow (looked_up o a b c)) is good
+
 -- The result of each operation: `own` of the register form.
 
-arith_byte : (r : AluRow) (a b c : ℕ) → field_add r.add r.sub ≡ 1 → a < modulus → LimbGood r a b c → a < 256
-arith_byte r a b c one below good = omega (arith, good.left, choose_result (field_add r.add r.sub) a b one below)
+-- the limbs of a sum or a difference
+sum_byte : (r : AluRow) (a b c : ℕ) → alu_operation r ≡ flags_of 1 0 0 0 → a < modulus → b < 256 → c < 256 → LimbGood r a b c → a < 256
+sum_byte r a b c is below p q good = (right_limb a b c below p q).sum.0 (limb_of r 1 0 0 0 a b c is good)
 
-arith_bytes : (r : AluRow) → field_add r.add r.sub ≡ 1 → LimbsBelow r.result → MixedGood r → IsBytes (list_of r.result)
+sum_bytes : (r : AluRow) → alu_operation r ≡ flags_of 1 0 0 0 → LimbsBelow r.result → MixedGood r → IsBytes (list_of r.regs.left) → IsBytes (list_of r.regs.right) → IsBytes (list_of r.result)
 unfolding list_of
-arith_bytes r one below good =
-    (arith_byte r _ _ _ one below.x0 good.x0, (arith_byte r _ _ _ one below.x1 good.x1, (arith_byte r _ _ _ one below.x2 good.x2, (arith_byte r _ _ _ one below.x3 good.x3, tt))))
+sum_bytes r is below good b c = (
+  sum_byte r _ _ _ is below.x0 b.0 c.0 good.x0,
+  (
+    sum_byte r _ _ _ is below.x1 b.1.0 c.1.0 good.x1,
+    (sum_byte r _ _ _ is below.x2 b.1.1.0 c.1.1.0 good.x2, (sum_byte r _ _ _ is below.x3 b.1.1.1.0 c.1.1.1.0 good.x3, tt)),
+  ),
+)
 
 -- what the opcodes make of two words
 pub result_add : (b c : ℕ) → result 1 b c ≡ word_sum b c
@@ -124,11 +116,10 @@ pub result_and : (b c : ℕ) → result 5 b c ≡ bit_and b c
 unfolding result alu
 result_and b c = refl
 
-pub add_result : (r : AluRow) → Set r 1 0 0 0 0 → LimbsBelow r.result → MixedGood r → AllZero (sum_constraints r.add 0 (list_of r.regs.left) (list_of r.regs.right) (list_of r.result))
+pub add_result : (r : AluRow) → alu_valid r ≡ 1 → Set r 1 0 0 0 0 → LimbsBelow r.result → MixedGood r → AllZero (sum_constraints r.add 0 (list_of r.regs.left) (list_of r.regs.right) (list_of r.result))
     → IsBytes (list_of r.regs.left) → IsBytes (list_of r.regs.right) → RegsResult r.regs 1 r.result
-add_result r s below good zero b c =
-    let one : field_add r.add r.sub ≡ 1 = omega (arith, s.is_add, s.is_sub) in
-    let bytes = arith_bytes r one below good in
+add_result r v s below good zero b c =
+    let bytes = sum_bytes r (operation_set r 1 0 0 0 0 s v) below good b c in
     record {
       bytes = bytes;
       result_is = sum_law_word r.regs.left r.regs.right r.result b c bytes (rw s.is_add at zero) ∙ sym (result_add (word_of_limbs (list_of r.regs.left)) (word_of_limbs (list_of r.regs.right)));
@@ -138,11 +129,10 @@ add_result r s below good zero b c =
 difference : (a b c : ℕ) → a < 2 ^ 32 → b < 2 ^ 32 → c < 2 ^ 32 → b ≡ word_sum a c → a ≡ word_difference b c
 difference a b c p q r e = omega arith
 
-pub sub_result : (r : AluRow) → Set r 0 1 0 0 0 → LimbsBelow r.result → MixedGood r → AllZero (sum_constraints r.sub 0 (list_of r.result) (list_of r.regs.right) (list_of r.regs.left))
+pub sub_result : (r : AluRow) → alu_valid r ≡ 1 → Set r 0 1 0 0 0 → LimbsBelow r.result → MixedGood r → AllZero (sum_constraints r.sub 0 (list_of r.result) (list_of r.regs.right) (list_of r.regs.left))
     → IsBytes (list_of r.regs.left) → IsBytes (list_of r.regs.right) → RegsResult r.regs 2 r.result
-sub_result r s below good zero b c =
-    let one : field_add r.add r.sub ≡ 1 = omega (arith, s.is_add, s.is_sub) in
-    let bytes = arith_bytes r one below good in
+sub_result r v s below good zero b c =
+    let bytes = sum_bytes r (operation_set r 0 1 0 0 0 s v) below good b c in
     let sum = sum_law_word r.result r.regs.right r.regs.left bytes c b (rw s.is_sub at zero) in
     record {
       bytes = bytes;
@@ -150,32 +140,17 @@ sub_result r s below good zero b c =
           ∙ sym (result_sub (word_of_limbs (list_of r.regs.left)) (word_of_limbs (list_of r.regs.right)));
     }
 
--- a bitwise lookup at one limb
-bits_of : (r : AluRow) (a b c : ℕ) → field_add r.add r.sub ≡ 0 → b < 256 → c < 256 → LimbGood r a b c → mixed r.xor r.or r.and a b c ≡ bit_xor b c
-bits_of r a b c none p q good =
-    good.xor ∙ ap (λ (x : ℕ). bit_xor x (choose 1 (field_add r.add r.sub) a c)) (choose_word (field_add r.add r.sub) a b none (omega arith))
-    ∙ ap (λ (x : ℕ). bit_xor b x) (choose_word (field_add r.add r.sub) a c none (omega arith))
+-- the limb of a bitwise result
+xor_limb : (r : AluRow) (a b c : ℕ) → alu_operation r ≡ flags_of 0 1 0 0 → a < modulus → b < 256 → c < 256 → LimbGood r a b c → a ≡ bit_xor b c
+xor_limb r a b c is below p q good = (right_limb a b c below p q).xor.0 (limb_of r 0 1 0 0 a b c is good)
 
-xor_limb : (r : AluRow) (a b c : ℕ) → Set r 0 0 1 0 0 → a < modulus → b < 256 → c < 256 → LimbGood r a b c → a ≡ bit_xor b c
-xor_limb r a b c s below p q good =
-    let none : field_add r.add r.sub ≡ 0 = omega (arith, s.is_add, s.is_sub) in
-    let at : mixed 1 0 0 a b c ≡ bit_xor b c = rw (s.is_xor, s.is_or, s.is_and) at (bits_of r a b c none p q good) in
-    sym (mixed_xor a b c below) ∙ at
+or_limb : (r : AluRow) (a b c : ℕ) → alu_operation r ≡ flags_of 0 0 1 0 → a < modulus → b < 256 → c < 256 → LimbGood r a b c → a ≡ bit_or b c
+or_limb r a b c is below p q good = (right_limb a b c below p q).or.0 (limb_of r 0 0 1 0 a b c is good)
 
-or_limb : (r : AluRow) (a b c : ℕ) → Set r 0 0 0 1 0 → a < modulus → b < 256 → c < 256 → LimbGood r a b c → a ≡ bit_or b c
-or_limb r a b c s below p q good =
-    let none : field_add r.add r.sub ≡ 0 = omega (arith, s.is_add, s.is_sub) in
-    let at : mixed 0 1 0 a b c ≡ bit_xor b c = rw (s.is_xor, s.is_or, s.is_and) at (bits_of r a b c none p q good) in
-    let bits = byte_bits b c p q in
-    mixed_or a b c (bit_xor b c) (bit_and b c) (bit_or b c) below p q (xor_of_8 b c p q) (omega (arith, and_le_l b c)) bits.0 bits.1 at
+and_limb : (r : AluRow) (a b c : ℕ) → alu_operation r ≡ flags_of 0 0 0 1 → a < modulus → b < 256 → c < 256 → LimbGood r a b c → a ≡ bit_and b c
+and_limb r a b c is below p q good = (right_limb a b c below p q).and.0 (limb_of r 0 0 0 1 a b c is good)
 
-and_limb : (r : AluRow) (a b c : ℕ) → Set r 0 0 0 0 1 → a < modulus → b < 256 → c < 256 → LimbGood r a b c → a ≡ bit_and b c
-and_limb r a b c s below p q good =
-    let none : field_add r.add r.sub ≡ 0 = omega (arith, s.is_add, s.is_sub) in
-    let at : mixed 0 0 1 a b c ≡ bit_xor b c = rw (s.is_xor, s.is_or, s.is_and) at (bits_of r a b c none p q good) in
-    mixed_and a b c (bit_xor b c) (bit_and b c) below p q (xor_of_8 b c p q) (omega (arith, and_le_l b c)) (byte_bits b c p q).0 at
-
-and_of_8 : (b c : ℕ) → b < 256 → c < 256 → bit_and b c < 256
+pub and_of_8 : (b c : ℕ) → b < 256 → c < 256 → bit_and b c < 256
 and_of_8 b c p q = omega (arith, and_le_l b c)
 
 byte_is : (a x : ℕ) → a ≡ x → x < 256 → a < 256
@@ -203,11 +178,11 @@ bits_result r op f byte word same limb below good b c =
           ∙ sym (same (word_of_limbs (x.x0 ∷ x.x1 ∷ x.x2 ∷ x.x3 ∷ [])) (word_of_limbs (y.x0 ∷ y.x1 ∷ y.x2 ∷ y.x3 ∷ [])));
     }
 
-pub xor_result : (r : AluRow) → Set r 0 0 1 0 0 → LimbsBelow r.result → MixedGood r → IsBytes (list_of r.regs.left) → IsBytes (list_of r.regs.right) → RegsResult r.regs 3 r.result
-xor_result r s = bits_result r 3 bit_xor xor_of_8 xor_word result_xor (λ a b c below p q good. xor_limb r a b c s below p q good)
+pub xor_result : (r : AluRow) → alu_valid r ≡ 1 → Set r 0 0 1 0 0 → LimbsBelow r.result → MixedGood r → IsBytes (list_of r.regs.left) → IsBytes (list_of r.regs.right) → RegsResult r.regs 3 r.result
+xor_result r v s = bits_result r 3 bit_xor xor_of_8 xor_word result_xor (λ a b c. xor_limb r a b c (operation_set r 0 0 1 0 0 s v))
 
-pub or_result : (r : AluRow) → Set r 0 0 0 1 0 → LimbsBelow r.result → MixedGood r → IsBytes (list_of r.regs.left) → IsBytes (list_of r.regs.right) → RegsResult r.regs 4 r.result
-or_result r s = bits_result r 4 bit_or or_of_8 or_word result_or (λ a b c below p q good. or_limb r a b c s below p q good)
+pub or_result : (r : AluRow) → alu_valid r ≡ 1 → Set r 0 0 0 1 0 → LimbsBelow r.result → MixedGood r → IsBytes (list_of r.regs.left) → IsBytes (list_of r.regs.right) → RegsResult r.regs 4 r.result
+or_result r v s = bits_result r 4 bit_or or_of_8 or_word result_or (λ a b c. or_limb r a b c (operation_set r 0 0 0 1 0 s v))
 
-pub and_result : (r : AluRow) → Set r 0 0 0 0 1 → LimbsBelow r.result → MixedGood r → IsBytes (list_of r.regs.left) → IsBytes (list_of r.regs.right) → RegsResult r.regs 5 r.result
-and_result r s = bits_result r 5 bit_and and_of_8 and_word result_and (λ a b c below p q good. and_limb r a b c s below p q good)
+pub and_result : (r : AluRow) → alu_valid r ≡ 1 → Set r 0 0 0 0 1 → LimbsBelow r.result → MixedGood r → IsBytes (list_of r.regs.left) → IsBytes (list_of r.regs.right) → RegsResult r.regs 5 r.result
+and_result r v s = bits_result r 5 bit_and and_of_8 and_word result_and (λ a b c. and_limb r a b c (operation_set r 0 0 0 0 1 s v))

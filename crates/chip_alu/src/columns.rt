@@ -5,8 +5,7 @@ ghost use Rattle.chip_alu.specs.Alu.{alu_row, alu_flags, alu_valid, alu_op};
 
 use adapter_regs::Regs;
 use air_core::{flag_sum, opcode};
-use gadget_limbs::Limbs;
-use vm_field::Fe;
+use vm_field::{Fe, Limbs};
 
 /// The flags of the five operations, the columns of the register form, and the result.
 #[derive(Clone, Copy, Debug)]

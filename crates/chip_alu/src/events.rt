@@ -3,56 +3,42 @@
 ghost use Rattle.std.specs.Prelude.{◌≡◌, ◌<◌, ◌≤◌, length, OnOk, OnErr};
 ghost use Rattle.air_core.specs.Sheet.{counted};
 ghost use Rattle.air_core.specs.Sink.{Handed, HandedSome};
-ghost use Rattle.chip_alu.specs.Alu.{alu_row, choose, mixed, mixed_line, mixed_lines, alu_lines};
+ghost use Rattle.chip_alu.specs.Alu.{alu_row, alu_lines, alu_operation, lookup_line, lookup_lines};
 
 use crate::columns::{AluRow, op, read, valid};
 use air_core::{Event, EventSink, OutOfMemory, hand_both, send};
-use vm_field::Fe;
+use gadget_limbs::{OperationFlags, looked_up};
+use vm_field::{Fe, Limbs};
 
-/// a where the row is a sum or a difference, else b
-#[tactic(auto, unfolding(crate::specs::Alu::choose))]
-fn choose(valid: Fe, arith: Fe, a: Fe, b: Fe) -> Fe
-    ensures { result ≡ choose valid arith a b }
+/// The flags by their operations.
+#[tactic(auto, unfolding(crate::specs::Alu::alu_operation))]
+fn operation(r: &AluRow) -> OperationFlags
+    ensures { result ≡ alu_operation r.now }
 {
-    arith.mul(a).add(valid.sub(arith).mul(b))
+    OperationFlags {
+        valid: valid(r),
+        sums: r.add.add(r.sub),
+        xor: r.xor,
+        or: r.or,
+        and: r.and,
+    }
 }
 
-/// What the xor of b and c is, by the result a.
-#[tactic(auto, unfolding(crate::specs::Alu::mixed))]
-fn mixed(xor: Fe, or: Fe, and: Fe, a: Fe, b: Fe, c: Fe) -> Fe
-    ensures { result ≡ mixed xor or and a b c }
+fn lookup(flags: &OperationFlags, a: Fe, b: Fe, c: Fe) -> Event
+    ensures { result ≡ lookup_line flags.now a b c }
 {
-    let two = Fe::of_u16(2).mul(a);
-    let both = b.add(c);
-    xor.mul(a)
-        .add(or.mul(two.sub(b).sub(c)))
-        .add(and.mul(both.sub(two)))
-}
-
-#[tactic(auto, unfolding(crate::specs::Alu::mixed_line))]
-fn lookup(r: &AluRow, a: Fe, b: Fe, c: Fe) -> Event
-    ensures { result ≡ mixed_line r.now a b c }
-{
-    let v = valid(r);
-    let arith = r.add.add(r.sub);
-    let x = choose(v, arith, a, b);
-    let y = choose(v, arith, a, c);
-    let z = mixed(r.xor, r.or, r.and, a, b, c);
-    send(3, v, &[x, y, z])
+    send(3, flags.valid, &looked_up(flags, a, b, c))
 }
 
 /// The four lookups of the result.
-#[tactic(auto, unfolding(crate::specs::Alu::mixed_lines))]
-fn lookups(r: &AluRow) -> [Event; 4]
-    ensures { result ≡ mixed_lines r.now }
+#[tactic(auto, unfolding(crate::specs::Alu::lookup_lines))]
+fn lookups(flags: &OperationFlags, a: Limbs, b: Limbs, c: Limbs) -> [Event; 4]
+    ensures { result ≡ lookup_lines flags.now a b c }
 {
-    let a = r.result;
-    let b = r.regs.left;
-    let c = r.regs.right;
-    let first = lookup(r, a.x0, b.x0, c.x0);
-    let second = lookup(r, a.x1, b.x1, c.x1);
-    let third = lookup(r, a.x2, b.x2, c.x2);
-    let fourth = lookup(r, a.x3, b.x3, c.x3);
+    let first = lookup(flags, a.x0, b.x0, c.x0);
+    let second = lookup(flags, a.x1, b.x1, c.x1);
+    let third = lookup(flags, a.x2, b.x2, c.x2);
+    let fourth = lookup(flags, a.x3, b.x3, c.x3);
     [first, second, third, fourth]
 }
 
@@ -64,7 +50,8 @@ pub fn events<const HI: u32, S: EventSink>(row: &[Fe], sink: &mut S) -> Result<(
     ensures err { OnErr result (HandedSome S.holds S.room sink.old sink.new (counted (alu_lines HI (alu_row row.now)))) }
 {
     let r = read(row);
+    let flags = operation(&r);
     let front = adapter_regs::events::<HI>(&r.regs, valid(&r), op(&r), r.result);
-    let back = lookups(&r);
+    let back = lookups(&flags, r.result, r.regs.left, r.regs.right);
     hand_both(&front, &back, sink)
 }

@@ -34,7 +34,7 @@ fn columns(done: &StepRecord) -> AluRow
     }
 }
 
-#[tactic(auto, unfolding(crate::specs::Alu::row_of_alu, crate::specs::Alu::alu_flags, adapter_regs::specs::Regs::regs_cells, adapter_regs::specs::Regs::time_cells, gadget_limbs::specs::Limbs::list_of))]
+#[tactic(auto, unfolding(crate::specs::Alu::row_of_alu, crate::specs::Alu::alu_flags, adapter_regs::specs::Regs::regs_cells, adapter_regs::specs::Regs::time_cells, vm_field::specs::Limbs::list_of))]
 fn write(columns: &AluRow, row: &mut [Fe])
     requires { length row.old ≡ 40 }
     ensures { row.new ≡ row_of_alu columns.now }

@@ -7,6 +7,8 @@ mod events;
 mod fill;
 mod holds;
 #[cfg(test)]
+mod steps;
+#[cfg(test)]
 mod tests;
 
 pub use alu::{Alu, AluAt};

@@ -1,13 +1,16 @@
 //! Rows, events and filled rows, by hand.
 
-ghost use Rattle.std.specs.Prelude.{◌≤◌, length};
+ghost use Rattle.std.specs.Prelude.{◌≡◌, ◌≤◌, ◌<◌, true, length};
+ghost use Rattle.vm_isa.specs.Opcodes.{is_from};
+ghost use Rattle.vm_isa.specs.Means.{Fillable};
 
-use crate::{Alu, AluAt, fill};
+use crate::steps::{Operation, step};
+use crate::{Alu, AluAt};
 use air_core::{Chip, Event, EventList, Extension, Side, Single, Tuple};
 use std::alloc::Global;
 use std::test::Fail;
-use vm_field::{Fe, MODULUS};
-use vm_isa::{Access, AccessList, OutOfMemory, StepRecord, TimedAccess, VmInstr};
+use vm_field::Fe;
+use vm_isa::{OutOfMemory, StepRecord};
 
 /// ADD x5, x6, x7 at the pc 4096 and the time 100, where x6 is 255 and x7 is 1. The three registers were
 /// accessed before at 90, at 50 and not at all.
@@ -44,6 +47,22 @@ fn elements(numbers: &[u32; 40]) -> [Fe; 40] {
     for i in 0..40 {
         row[i] = Fe::new(numbers[i]).unwrap_or(Fe::ZERO);
     }
+    row
+}
+
+/// ADDI x6, x6, 256 at the pc 4096 and the time 70000, where x6 is FFFFFF01 and was accessed before at 90.
+const SUM_WITH_IMMEDIATE: [u32; 40] = [
+    4096, 70000, 1, 0, 0, 0, 0, 6, 6, 0, 1, 0, 1, 0, 0, 1, 255, 255, 255, 0, 1, 0, 0, 1, 255, 255,
+    255, 1, 0, 0, 0, 90, 4373, 1, 0, 0, 0, 70000, 1, 0,
+];
+
+/// The row of a step.
+fn filled(done: &StepRecord) -> [Fe; 40]
+    requires owned { is_from 1 5 done.now.instr.op ≡ true }
+    requires fillable { Fillable 24 done.now }
+{
+    let mut row = [Fe::ZERO; 40];
+    Alu::new().fill(done, 0, &mut row);
     row
 }
 
@@ -92,9 +111,9 @@ fn received(bus: u8, tuple: &[u32]) -> Event
     }
 }
 
-#[test]
-fn events_in_order(rt: HostRuntime) -> Result<(), Fail> {
-    let wanted = [
+/// What that sum says, in the sheet's order.
+fn events_of_the_sum() -> [Event; 19] {
+    [
         received(0, &[4096, 100]),
         sent(0, &[4100, 103]),
         sent(1, &[4096, 1, 5, 6, 7, 1, 0, 0, 0, 0, 0, 0]),
@@ -114,9 +133,25 @@ fn events_in_order(rt: HostRuntime) -> Result<(), Fail> {
         sent(3, &[1, 1, 0]),
         sent(3, &[0, 0, 0]),
         sent(3, &[0, 0, 0]),
-    ];
-    let list = events_of(rt.alloc(), &elements(&SUM))?;
-    assert_eq!(rt; list.as_slice(), wanted.as_slice());
+    ]
+}
+
+/// The row of a sum, filled by the chip, says what is written above by hand.
+#[test]
+fn events_in_order(rt: HostRuntime) -> Result<(), Fail> {
+    let sum = Operation {
+        op: 1,
+        left: 255,
+        right: 1,
+        use_imm: false,
+        rd: 5,
+    };
+    let done = step(rt.alloc(), 100, &sum)?;
+    let row = filled(&done);
+    assert_eq!(rt; row, elements(&SUM));
+    assert_eq!(rt; Alu::new().first_broken(&row), None);
+    let list = events_of(rt.alloc(), &row)?;
+    assert_eq!(rt; list.as_slice(), events_of_the_sum().as_slice());
     Ok(())
 }
 
@@ -132,75 +167,6 @@ fn as_an_extension(rt: HostRuntime) -> Result<(), Fail> {
     Ok(())
 }
 
-/// The words that are operated on.
-const WORDS: [u32; 5] = [0, 1, 0xFFFF_FFFF, 0x8000_0000, 0x7FFF_FFFF];
-
-/// Whether the second word is an immediate, and the register that is written.
-const FORMS: [(bool, u8); 5] = [(false, 5), (false, 6), (false, 7), (true, 5), (true, 6)];
-
-/// What the manual says of the two words.
-fn result(op: u8, b: u32, c: u32) -> u32 {
-    match op {
-        1 => b.wrapping_add(c),
-        2 => b.wrapping_sub(c),
-        3 => b ^ c,
-        4 => b | c,
-        _ => b & c,
-    }
-}
-
-fn access(register: u8, old: u32, new: u32, time: u32, before: u32) -> TimedAccess {
-    TimedAccess {
-        access: Access {
-            space: 1,
-            pointer: 4 * register as u32,
-            old: old.to_le_bytes(),
-            new: new.to_le_bytes(),
-        },
-        time,
-        before,
-    }
-}
-
-/// The step at the time 70000 that reads x6 and x7 or an immediate, and writes this word.
-fn step(
-    alloc: Global,
-    op: u8,
-    b: u32,
-    c: u32,
-    use_imm: bool,
-    rd: u8,
-    new: u32,
-) -> Result<StepRecord, OutOfMemory> {
-    let mut accesses = AccessList::new(alloc);
-    accesses.push(access(6, b, b, 70000, 9))?;
-    if !use_imm {
-        accesses.push(access(7, c, c, 70001, 69990))?;
-    }
-    let (old, before) = match rd {
-        6 => (b, 70000),
-        7 => (c, 70001),
-        _ => (0x0102_0304, 0),
-    };
-    accesses.push(access(rd, old, new, 70002, before))?;
-    Ok(StepRecord {
-        instr: VmInstr {
-            pc: 4096,
-            op,
-            rd,
-            rs1: 6,
-            rs2: if use_imm { 0 } else { 7 },
-            write: true,
-            use_imm,
-            imm: if use_imm { c.to_le_bytes() } else { [0; 4] },
-            target: 0,
-        },
-        time: 70000,
-        accesses,
-        next: 4100,
-    })
-}
-
 /// Whether a lookup stands in its table.
 fn is_good(event: &Event) -> bool {
     let x = event.tuple.at(0).unwrap_or(0);
@@ -210,15 +176,6 @@ fn is_good(event: &Event) -> bool {
         4 => (y == 16 && x < 65536) || (y == 8 && x < 256),
         _ => true,
     }
-}
-
-/// The row that a step fills.
-fn row_of(done: &StepRecord) -> [Fe; 40] {
-    let mut row = [Fe::ZERO; 40];
-    if done.instr.pc < MODULUS && done.time < MODULUS {
-        fill::fill(done, &mut row);
-    }
-    row
 }
 
 /// Whether a row holds, has good lookups, and says so many events, each once.
@@ -231,75 +188,54 @@ fn is_good_row(alloc: Global, row: &[Fe; 40], events: usize) -> Result<bool, Out
     Ok(good)
 }
 
+/// The words that are operated on.
+const WORDS: [u32; 5] = [0, 1, 0xFFFF_FFFF, 0x8000_0000, 0x7FFF_FFFF];
+
+/// Whether the filled row of this operation on these words is good, and no longer good with another result.
+fn is_right(alloc: Global, op: u8, left: u32, right: u32) -> Result<bool, OutOfMemory>
+    requires { is_from 1 5 op ≡ true }
+{
+    let mut all = true;
+    for (use_imm, rd) in [(false, 5), (false, 6), (false, 7), (true, 5), (true, 6)] {
+        let o = Operation {
+            op,
+            left,
+            right,
+            use_imm,
+            rd,
+        };
+        let events = if use_imm { 15 } else { 19 };
+        let mut row = filled(&step(alloc, 70000, &o)?);
+        all = all && is_good_row(alloc, &row, events)?;
+        row[28] = row[28].add(Fe::ONE);
+        all = all && !is_good_row(alloc, &row, events)?;
+    }
+    Ok(all)
+}
+
 #[test]
 fn filled_rows(rt: HostRuntime) -> Result<(), Fail> {
     for op in 1..=5 {
-        for b in &WORDS {
-            for c in &WORDS {
-                for (use_imm, rd) in &FORMS {
-                    let events = if *use_imm { 15 } else { 19 };
-                    let new = result(op, *b, *c);
-                    let done = step(rt.alloc(), op, *b, *c, *use_imm, *rd, new)?;
-                    let right = is_good_row(rt.alloc(), &row_of(&done), events)?;
-                    assert!(rt; right, "{op} {b} {c} {use_imm} {rd}");
-                    let done = step(rt.alloc(), op, *b, *c, *use_imm, *rd, new ^ 256)?;
-                    let wrong = is_good_row(rt.alloc(), &row_of(&done), events)?;
-                    assert!(rt; !wrong, "{op} {b} {c} {use_imm} {rd}");
-                }
+        for left in &WORDS {
+            for right in &WORDS {
+                let right_rows = is_right(rt.alloc(), op, *left, *right)?;
+                assert!(rt; right_rows, "{op} {left} {right}");
             }
         }
     }
     Ok(())
 }
 
-/// ADDI x5, x0, 7 at the pc 4096, as the first step of a segment, filled by the chip.
 #[test]
-fn the_row_of_a_step(rt: HostRuntime) -> Result<(), Fail> {
-    let read = Access {
-        space: 1,
-        pointer: 0,
-        old: [0; 4],
-        new: [0; 4],
+fn an_immediate(rt: HostRuntime) -> Result<(), Fail> {
+    let sum = Operation {
+        op: 1,
+        left: 0xFFFF_FF01,
+        right: 256,
+        use_imm: true,
+        rd: 6,
     };
-    let written = Access {
-        space: 1,
-        pointer: 20,
-        old: [0; 4],
-        new: [7, 0, 0, 0],
-    };
-    let mut accesses = AccessList::new(rt.alloc());
-    accesses.push(TimedAccess {
-        access: read,
-        time: 1,
-        before: 0,
-    })?;
-    accesses.push(TimedAccess {
-        access: written,
-        time: 3,
-        before: 0,
-    })?;
-    let done = StepRecord {
-        instr: VmInstr {
-            pc: 4096,
-            op: 1,
-            rd: 5,
-            rs1: 0,
-            rs2: 0,
-            write: true,
-            use_imm: true,
-            imm: [7, 0, 0, 0],
-            target: 0,
-        },
-        time: 1,
-        accesses,
-        next: 4100,
-    };
-    let mut row = [Fe::ZERO; 40];
-    Alu::new().fill(&done, 0, &mut row);
-    let wanted = elements(&[
-        4096, 1, 1, 0, 0, 0, 0, 5, 0, 0, 1, 7, 0, 0, 0, 0, 0, 0, 0, 7, 0, 0, 0, 0, 0, 0, 0, 7, 0,
-        0, 0, 0, 0, 0, 0, 0, 0, 0, 2, 0,
-    ]);
-    assert_eq!(rt; row, wanted);
+    let done = step(rt.alloc(), 70000, &sum)?;
+    assert_eq!(rt; filled(&done), elements(&SUM_WITH_IMMEDIATE));
     Ok(())
 }

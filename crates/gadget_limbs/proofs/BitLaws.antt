@@ -3,7 +3,7 @@ use Rattle.std.proofs.Common.{◌≡◌, ℕ, zero, suc, ◌+◌, ◌*◌, ◌^�
 use Rattle.std.proofs.lemmas.Bool.{and_parts, eqb-true, cases_eq}
 use Rattle.std.proofs.lemmas.Nat.{xor_block, or_block, and_block}
 use Rattle.vm_word.specs.Word.{word_of_limbs}
-use Rattle.gadget_limbs.specs.Limbs.{number_of}
+use Rattle.gadget_limbs.specs.Number.{number_of}
 use Rattle.gadget_limbs.proofs.LimbsLaws.{number_is_word}
 
 -- the two identities at a pair of bytes

@@ -3,3 +3,4 @@ pub mod SumLemmas
 pub mod SumLaw
 pub mod SumHolds
 pub mod BitLaws
+pub mod LookupLaws

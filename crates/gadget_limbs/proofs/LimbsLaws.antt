@@ -7,17 +7,9 @@ use Rattle.vm_isa.specs.Words.{IsBytes, IsWord}
 use Rattle.vm_isa.proofs.InstrLaws.{four}
 use Rattle.air_core.specs.Sheet.{AllBelow}
 use Rattle.air_core.specs.ListLemmas.{below_at, all_weaker}
-use Rattle.gadget_limbs.specs.declared.limbs.Limbs.{Limbs}
-use Rattle.gadget_limbs.specs.Limbs.{list_of, limbs_from, limbs_at, number_of, LimbsBelow}
-
-pub length-list_of : (w : Limbs) → length (list_of w) ≡ 4
-unfolding list_of
-length-list_of w = refl
-
--- the limbs of four numbers are these numbers
-pub list_of-from : (xs : List ℕ) → length xs ≡ 4 → list_of (limbs_from xs) ≡ xs
-unfolding list_of limbs_from
-list_of-from xs h = four xs h
+use Rattle.vm_field.specs.declared.limbs.Limbs.{Limbs}
+use Rattle.vm_field.specs.Limbs.{list_of, limbs_from, limbs_at, LimbsBelow}
+use Rattle.gadget_limbs.specs.Number.{number_of}
 
 -- columns of a row of elements are elements
 pub limbs_at_below : (row : List ℕ) (at : ℕ) → AllBelow row → LimbsBelow (limbs_at row at)
@@ -55,11 +47,3 @@ limbs_of-word xs h = limbs_of-word_of_limbs xs h.four (λ i low. byte_at xs i h.
 
 pub limbs_word : (n : ℕ) → IsWord (limbs_of n)
 limbs_word n = record { four = refl; bytes = (omega arith, (omega arith, (omega arith, (omega arith, tt)))) }
-
--- limbs with one list are one word's
-from-list_of : (w : Limbs) → limbs_from (list_of w) ≡ w
-unfolding limbs_from list_of
-from-list_of w = refl
-
-pub limbs_same : (v w : Limbs) → list_of v ≡ list_of w → v ≡ w
-limbs_same v w e = sym (from-list_of v) ∙ ap limbs_from e ∙ from-list_of w

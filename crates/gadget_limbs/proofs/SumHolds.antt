@@ -7,9 +7,11 @@ use Rattle.vm_word.specs.Arithmetic.{word_sum}
 use Rattle.vm_isa.specs.Words.{IsBytes}
 use Rattle.air_core.specs.First.{bit}
 use Rattle.air_core.specs.Sheet.{AllZero}
-use Rattle.gadget_limbs.specs.declared.limbs.Limbs.{Limbs}
-use Rattle.gadget_limbs.specs.Limbs.{number_of, list_of}
-use Rattle.gadget_limbs.proofs.LimbsLaws.{length-list_of, list_is_word}
+use Rattle.vm_field.specs.declared.limbs.Limbs.{Limbs}
+use Rattle.vm_field.specs.Limbs.{list_of}
+use Rattle.gadget_limbs.specs.Number.{number_of}
+use Rattle.vm_field.proofs.LimbLemmas.{length-list_of}
+use Rattle.gadget_limbs.proofs.LimbsLaws.{list_is_word}
 use Rattle.gadget_limbs.specs.Sum.{sum_constraints, carry_out, gated_bit}
 
 -- the carry of the right limb is the carry of whole numbers

@@ -8,10 +8,12 @@ use Rattle.vm_word.specs.Arithmetic.{word_sum}
 use Rattle.vm_isa.specs.Words.{IsBytes}
 use Rattle.air_core.specs.First.{bit}
 use Rattle.air_core.specs.Sheet.{AllZero}
-use Rattle.gadget_limbs.specs.declared.limbs.Limbs.{Limbs}
-use Rattle.gadget_limbs.specs.Limbs.{number_of, list_of}
+use Rattle.vm_field.specs.declared.limbs.Limbs.{Limbs}
+use Rattle.vm_field.specs.Limbs.{list_of}
+use Rattle.gadget_limbs.specs.Number.{number_of}
 use Rattle.gadget_limbs.specs.Sum.{sum_constraints, carry_out, gated_bit}
-use Rattle.gadget_limbs.proofs.LimbsLaws.{number_of_below, length-list_of, list_is_word}
+use Rattle.vm_field.proofs.LimbLemmas.{length-list_of}
+use Rattle.gadget_limbs.proofs.LimbsLaws.{number_of_below, list_is_word}
 use Rattle.std.proofs.Math.Nat.{pow-suc}
 
 -- one limb

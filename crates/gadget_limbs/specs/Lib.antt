@@ -1,3 +1,4 @@
-pub mod Limbs
+pub mod Number
 pub mod Sum
+pub mod Lookup
 pub mod Laws

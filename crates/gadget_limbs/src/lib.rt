@@ -1,11 +1,11 @@
-//! Words of a row by their limbs, and the sum of two numbers by limbs.
+//! The sum of two numbers by limbs, and the lookup of a result limb by limb.
 #![tactic(auto)]
 
 pub mod laws;
-mod limbs;
+mod lookup;
 mod sum;
 #[cfg(test)]
 mod tests;
 
-pub use limbs::Limbs;
+pub use lookup::{OperationFlags, looked_up};
 pub use sum::first_broken;

@@ -4,7 +4,7 @@ ghost use Rattle.std.specs.Prelude.{◌≡◌, ℕ, ◌+◌, ◌<◌, ◌^◌, l
 ghost use Rattle.air_core.specs.First.{first_from};
 ghost use Rattle.gadget_limbs.specs.Sum.{sum_constraints, carry_out, gated_bit};
 
-use air_core::{bit, element};
+use air_core::bit;
 use vm_field::Fe;
 
 /// (x + y + carry - z) / 256
@@ -12,8 +12,7 @@ use vm_field::Fe;
 fn carry_out(x: Fe, y: Fe, carry: Fe, z: Fe) -> Fe
     ensures { result ≡ carry_out x y carry z }
 {
-    let inverse_of_256 = element(2_005_401_601);
-    x.add(y).add(carry).sub(z).mul(inverse_of_256)
+    x.add(y).add(carry).sub(z).mul(Fe::INVERSE_OF_256)
 }
 
 #[tactic(auto, unfolding(crate::specs::Sum::gated_bit))]

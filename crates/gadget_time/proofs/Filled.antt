@@ -16,7 +16,7 @@ use Rattle.air_core.specs.Laws.{record_events}
 use Rattle.air_core.specs.ListLemmas.{all_append, all_weaker, all_counted_some}
 use Rattle.air_core.specs.PathLaws.{good_free, path_good, path_counts, time_fits}
 use Rattle.air_core.proofs.LookupLemmas.{good_range}
-use Rattle.gadget_limbs.specs.Limbs.{list_of}
+use Rattle.vm_field.specs.Limbs.{list_of}
 use Rattle.gadget_time.specs.declared.touch.Gap.{Gap}
 use Rattle.gadget_time.specs.declared.touch.Touch.{Touch}
 use Rattle.gadget_time.specs.Told.{Told, told_lines, told_front, touch_lines, touches_lines, touch_constraint, time_constraint, gap_filled, touched, touched_of, MadeBy, MadeByAll, made}

@@ -17,7 +17,7 @@ use Rattle.air_core.specs.ListLemmas.{all_left, all_right, all_append, all_weake
 use Rattle.air_core.specs.PathLaws.{path_quiet, path_on, path_program}
 use Rattle.air_core.proofs.LookupLemmas.{range_good}
 use Rattle.air_core.proofs.HintLemmas.{NoProgram, path_no_program, no_hint}
-use Rattle.gadget_limbs.specs.Limbs.{list_of}
+use Rattle.vm_field.specs.Limbs.{list_of}
 use Rattle.gadget_time.specs.declared.touch.Touch.{Touch}
 use Rattle.gadget_time.specs.Told.{Told, told_lines, told_front, touch_lines, touches_lines, touch_constraint, time_constraint, touched, touched_of, if_touched}
 use Rattle.gadget_time.specs.Laws.{CountsSmall, OffMachine, TellsStep, LaterThan, AllApart}

@@ -6,7 +6,7 @@ use Rattle.air_core.specs.declared.event.Event.{Event}
 use Rattle.air_core.specs.Sheet.{sent, received}
 use Rattle.air_core.specs.Path.{path_lines}
 use Rattle.air_core.specs.Step.{Touched}
-use Rattle.gadget_limbs.specs.Limbs.{list_of}
+use Rattle.vm_field.specs.Limbs.{list_of}
 use Rattle.gadget_time.specs.declared.touch.Touch.{Touch}
 use Rattle.gadget_time.specs.declared.touch.Gap.{Gap}
 

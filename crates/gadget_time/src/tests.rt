@@ -2,9 +2,8 @@
 
 use crate::{Gap, Touch, gap_between, touch_constraint, touch_events};
 use air_core::{Event, Side, Tuple, element};
-use gadget_limbs::Limbs;
 use std::test::Fail;
-use vm_field::{Fe, MODULUS};
+use vm_field::{Fe, Limbs, MODULUS};
 
 fn touch(count: Fe, gap: Gap) -> Touch {
     Touch {

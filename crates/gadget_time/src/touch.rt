@@ -4,8 +4,7 @@ ghost use Rattle.std.specs.Prelude.{◌≡◌, ℕ, ◌+◌, ◌<◌, ◌≤◌,
 ghost use Rattle.gadget_time.specs.Told.{time_constraint, touch_constraint, touch_lines, gap_filled};
 
 use air_core::{Event, element, receive, send};
-use gadget_limbs::Limbs;
-use vm_field::{Fe, MODULUS};
+use vm_field::{Fe, Limbs, MODULUS};
 
 /// The time of the block's access before, and what lies between, less 1, as its lower 16 bits and the others.
 #[derive(Clone, Copy, Debug)]

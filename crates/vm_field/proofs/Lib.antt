@@ -3,3 +3,4 @@ pub mod Ring
 pub mod Inverse
 pub mod Lift
 pub mod Constraints
+pub mod LimbLemmas

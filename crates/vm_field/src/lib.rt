@@ -1,4 +1,4 @@
-//! BabyBear, the prime field of 15 * 2^27 + 1 elements.
+//! BabyBear, the prime field of 15 * 2^27 + 1 elements, and words of a row as four of them.
 #![tactic(auto)]
 
 ghost use Rattle.std.specs.Prelude.{◌≡◌, ◌↔◌, ℕ, ◌%◌, ◌<◌, SomeIff, IfSome, IsNone, Some};
@@ -9,8 +9,11 @@ use std::fmt;
 use std::marker::Model;
 
 pub mod laws;
+mod limbs;
 #[cfg(test)]
 mod tests;
+
+pub use limbs::Limbs;
 
 /// How many elements the field has.
 pub const MODULUS: u32 = 15 * (1 << 27) + 1;
@@ -35,6 +38,11 @@ impl Fe {
     pub const ZERO: Fe = Fe { number: 0 };
 
     pub const ONE: Fe = Fe { number: 1 };
+
+    /// Carries from one limb of 8 bits to the next are divided by 256.
+    pub const INVERSE_OF_256: Fe = Fe {
+        number: 2_005_401_601,
+    };
 
     /// The element with this number, if there is one.
     pub const fn new(number: u32) -> Option<Fe>

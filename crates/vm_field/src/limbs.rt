@@ -1,11 +1,11 @@
 //! Words of a row.
 
 ghost use Rattle.std.specs.Prelude.{◌≡◌, ◌+◌, ◌≤◌, length};
-ghost use Rattle.gadget_limbs.specs.Limbs.{limbs_at, list_of, limbs_from};
+ghost use Rattle.vm_field.specs.Limbs.{limbs_at, list_of, limbs_from};
 
-use vm_field::Fe;
+use crate::Fe;
 
-/// The four limbs of a word as columns, lowest first.
+/// The four limbs of a word as columns, lowest first. Where the word is one of 32 bits, each is a byte.
 #[derive(Clone, Copy, Debug)]
 pub struct Limbs {
     pub x0: Fe,
@@ -36,6 +36,7 @@ impl Limbs {
         }
     }
 
+    /// Lowest first.
     #[tactic(auto, unfolding(crate::specs::Limbs::list_of))]
     pub fn array(&self) -> [Fe; 4]
         ensures { result ≡ list_of self.now }
@@ -43,6 +44,7 @@ impl Limbs {
         [self.x0, self.x1, self.x2, self.x3]
     }
 
+    /// The limbs of a word of 32 bits by its bytes, lowest first.
     #[tactic(auto, unfolding(crate::specs::Limbs::limbs_from))]
     pub fn of_bytes(bytes: &[u8; 4]) -> Limbs
         ensures { result ≡ limbs_from bytes.now }

@@ -1,12 +1,7 @@
--- Words of a row as records of four limbs, and numbers by limbs.
-use Rattle.std.specs.Prelude.{ℕ, ◌+◌, ◌*◌, ◌<◌, List, [], ◌∷◌, slice_index}
+-- Words of a row as records of four limbs.
+use Rattle.std.specs.Prelude.{ℕ, ◌+◌, ◌<◌, List, [], ◌∷◌, slice_index}
 use Rattle.vm_field.specs.Field.{modulus}
-use Rattle.gadget_limbs.specs.declared.limbs.Limbs.{Limbs}
-
--- the number that limbs make, the lowest first
-abbrev pub number_of : List ℕ → ℕ
-number_of [] = 0
-number_of (x ∷ xs) = x + 256 * number_of xs
+use Rattle.vm_field.specs.declared.limbs.Limbs.{Limbs}
 
 -- four columns from a place on
 unfoldable pub limbs_at : List ℕ → ℕ → Limbs

@@ -1,0 +1,153 @@
+//! Records of steps, for the tests.
+
+ghost use Rattle.std.specs.Prelude.{◌≡◌, ◌+◌, ◌*◌, ◌<◌, ◌≤◌, true, false, if◌then◌else◌, IfOk, [], ◌∷◌};
+ghost use Rattle.vm_word.specs.Word.{limbs_of};
+ghost use Rattle.vm_isa.specs.Opcodes.{is_from};
+ghost use Rattle.vm_isa.specs.Results.{alu};
+ghost use Rattle.vm_isa.specs.Means.{Fillable};
+
+use std::alloc::Global;
+use vm_isa::{Access, AccessList, OutOfMemory, StepRecord, TimedAccess, VmInstr};
+use vm_word::limbs;
+
+/// An operation on the word of x6 and that of x7, or an immediate.
+#[derive(Clone, Copy, Debug)]
+pub struct Operation {
+    pub op: u8,
+    pub left: u32,
+    pub right: u32,
+    /// Whether the second word is an immediate.
+    pub use_imm: bool,
+    /// The register that is written.
+    pub rd: u8,
+}
+
+/// What the manual says of the two words.
+#[tactic(auto, unfolding(vm_isa::specs::Results::alu))]
+fn result(op: u8, b: u32, c: u32) -> u32
+    requires { is_from 1 5 op ≡ true }
+    ensures { result ≡ alu op b c }
+{
+    match op {
+        1 => b.wrapping_add(c),
+        2 => b.wrapping_sub(c),
+        3 => b ^ c,
+        4 => b | c,
+        _ => b & c,
+    }
+}
+
+fn access(register: u8, old: u32, new: u32, time: u32, before: u32) -> TimedAccess
+    ensures { result ≡ record { access = record { space = 1; pointer = 4 * register; old = limbs_of old; new = limbs_of new }; time = time; before = before } }
+{
+    TimedAccess {
+        access: Access {
+            space: 1,
+            pointer: 4 * register as u32,
+            old: limbs(old),
+            new: limbs(new),
+        },
+        time,
+        before,
+    }
+}
+
+/// The word that is in the written register.
+fn old_word(o: &Operation) -> u32 {
+    match o.rd {
+        6 => o.left,
+        7 if !o.use_imm => o.right,
+        _ => 0x0607_0809,
+    }
+}
+
+/// When the written register was accessed before.
+fn last_access(o: &Operation, time: u32) -> u32
+    requires { time ≤ 70000 }
+    ensures { result < time + 2 }
+{
+    match o.rd {
+        6 => time,
+        7 if !o.use_imm => time + 1,
+        _ => 0,
+    }
+}
+
+fn instruction(o: &Operation) -> VmInstr
+    ensures { result ≡ record {
+      pc = 4096;
+      op = o.now.op;
+      rd = o.now.rd;
+      rs1 = 6;
+      rs2 = if o.now.use_imm then 0 else 7;
+      write = true;
+      use_imm = o.now.use_imm;
+      imm = if o.now.use_imm then limbs_of o.now.right else limbs_of 0;
+      target = 0;
+    } }
+{
+    VmInstr {
+        pc: 4096,
+        op: o.op,
+        rd: o.rd,
+        rs1: 6,
+        rs2: if o.use_imm { 0 } else { 7 },
+        write: true,
+        use_imm: o.use_imm,
+        imm: if o.use_imm { limbs(o.right) } else { limbs(0) },
+        target: 0,
+    }
+}
+
+fn of_registers(alloc: Global, time: u32, o: &Operation) -> Result<StepRecord, OutOfMemory>
+    requires form { o.now.use_imm ≡ false }
+    requires owned { is_from 1 5 o.now.op ≡ true }
+    requires register { o.now.rd < 32 }
+    requires time { (100 ≤ time) × (time ≤ 70000) }
+    ensures { IfOk result (λ done. (done.instr.op ≡ o.now.op) × Fillable 24 done) }
+{
+    let new = result(o.op, o.left, o.right);
+    let mut accesses = AccessList::new(alloc);
+    accesses.push(access(6, o.left, o.left, time, 90))?;
+    accesses.push(access(7, o.right, o.right, time + 1, 50))?;
+    accesses.push(access(o.rd, old_word(o), new, time + 2, last_access(o, time)))?;
+    Ok(StepRecord {
+        instr: instruction(o),
+        time,
+        accesses,
+        next: 4100,
+    })
+}
+
+fn of_immediate(alloc: Global, time: u32, o: &Operation) -> Result<StepRecord, OutOfMemory>
+    requires form { o.now.use_imm ≡ true }
+    requires owned { is_from 1 5 o.now.op ≡ true }
+    requires register { o.now.rd < 32 }
+    requires time { (100 ≤ time) × (time ≤ 70000) }
+    ensures { IfOk result (λ done. (done.instr.op ≡ o.now.op) × Fillable 24 done) }
+{
+    let new = result(o.op, o.left, o.right);
+    let mut accesses = AccessList::new(alloc);
+    accesses.push(access(6, o.left, o.left, time, 90))?;
+    accesses.push(access(o.rd, old_word(o), new, time + 2, last_access(o, time)))?;
+    Ok(StepRecord {
+        instr: instruction(o),
+        time,
+        accesses,
+        next: 4100,
+    })
+}
+
+/// The step of an operation at the pc 4096 and this time. Both words were accessed before, at 90 and at 50.
+pub fn step(alloc: Global, time: u32, o: &Operation) -> Result<StepRecord, OutOfMemory>
+    requires owned { is_from 1 5 o.now.op ≡ true }
+    requires register { o.now.rd < 32 }
+    requires time { (100 ≤ time) × (time ≤ 70000) }
+    ensures { IfOk result (λ done. (done.instr.op ≡ o.now.op) × Fillable 24 done) }
+{
+    if o.use_imm {
+        of_immediate(alloc, time, o)
+    } else {
+        of_registers(alloc, time, o)
+    }
+}
