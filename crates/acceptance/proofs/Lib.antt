@@ -1,3 +1,7 @@
+pub mod StepTimes
+pub mod RunOfSteps
+pub mod WholeSegment
+pub mod BlockRun
 pub mod EachRow
 pub mod Lookups
 pub mod Row

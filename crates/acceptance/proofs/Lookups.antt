@@ -27,7 +27,7 @@ use Rattle.offline_memory.specs.declared.page.Touched.{Touched}
 use Rattle.offline_memory.specs.Memory.{Block}
 use Rattle.offline_memory.specs.MemoryEvents.{block_events, boundary_events}
 use Rattle.offline_memory.specs.Pages.{page_blocks}
-use Rattle.offline_memory.specs.Segment.{NotOn}
+use Rattle.acceptance.specs.OneRun.{NotOn}
 use Rattle.acceptance.specs.File.{Segment}
 use Rattle.acceptance.specs.Events.{Lookups, AreLookedUp, received_row, entry_events, counted_events, segment_events, start_of, end_of}
 use Rattle.acceptance.proofs.EachRow.{events_any, events_each}

@@ -9,7 +9,7 @@ use Rattle.air_core.specs.ListLemmas.{all_weaker}
 use Rattle.air_core.specs.Orders.{Ascends, Rises, Distinct, Member}
 use Rattle.air_core.proofs.Counting.{weight-map, weight-IsPermutation, weight-flat_map_permuted}
 use Rattle.air_core.proofs.ElementLemmas.{all_map, all_from_members, all_permuted, all_at, all_members, member_flat_map, member_piece}
-use Rattle.exec_path.proofs.Ordering.{rising_unique}
+use Rattle.air_core.proofs.Ordering.{rising_unique}
 
 once_itself : (n : ℕ) → once (nat_eq n n) ≡ 1
 once_itself n = ap once (eq-eqb n n refl)

@@ -17,7 +17,7 @@ use Rattle.air_core.specs.Step.{Touched, touched_events, Rising, on_bus, if_on, 
 use Rattle.air_core.specs.System.{time_if, times_of}
 use Rattle.air_core.specs.ListLemmas.{all_weaker}
 use Rattle.air_core.proofs.ElementLemmas.{all_at, all_from_members, member_left, member_right, member_flat_map, member_piece, member_cases}
-use Rattle.offline_memory.specs.Segment.{RowStep}
+use Rattle.acceptance.specs.OneRun.{RowStep}
 use Rattle.acceptance.specs.Events.{is_valid}
 
 -- ---- lists of events

@@ -23,7 +23,7 @@ use Rattle.air_core.specs.System.{Part, time_if, times_of}
 use Rattle.air_core.proofs.ElementLemmas.{all_at}
 use Rattle.air_core.proofs.StepLaws.{step_same}
 use Rattle.exec_path.specs.Path.{slot_sum}
-use Rattle.offline_memory.specs.Segment.{RowStep, TableRow, RowSays, rows_of, steps_of}
+use Rattle.acceptance.specs.OneRun.{RowStep, TableRow, RowSays, rows_of, steps_of}
 use Rattle.acceptance.specs.Events.{is_valid}
 use Rattle.acceptance.specs.Spelled.{AreHints}
 use Rattle.acceptance.proofs.EachRow.{SheetRow, said, slots_of_row}

@@ -22,14 +22,15 @@ use Rattle.air_core.specs.Sheet.{Sheet, IsRow, RowHolds, row_events}
 use Rattle.air_core.specs.System.{System, Part, EachRow, GoodRow, Whole, times_of}
 use Rattle.air_core.proofs.ElementLemmas.{all_both, all_permuted}
 use Rattle.exec_path.specs.PathEvents.{connector_events}
-use Rattle.exec_path.proofs.Ordering.{in_order, in_order-IsPermutation, in_order-Ascends}
+use Rattle.air_core.proofs.Ordering.{in_order, in_order-IsPermutation, in_order-Ascends}
 use Rattle.offline_memory.specs.declared.page.Touched.{Touched}
-use Rattle.offline_memory.specs.BlockMemory.{IsPage, ArePages, HasOld, after_steps}
+use Rattle.offline_memory.specs.BlockMemory.{IsPage, ArePages, HasOld}
+use Rattle.acceptance.specs.BlockRun.{after_steps}
 use Rattle.offline_memory.specs.MemoryEvents.{boundary_events}
 use Rattle.offline_memory.specs.Pages.{page_space, DistinctLabels}
-use Rattle.offline_memory.specs.Segment.{RowStep, TableRow, OneRun, StepHasBytes, steps_of}
-use Rattle.offline_memory.proofs.WholeSegment.{whole_run}
-use Rattle.offline_memory.proofs.BlockLemmas.{run_meets_blocks}
+use Rattle.acceptance.specs.OneRun.{RowStep, TableRow, OneRun, StepHasBytes, steps_of}
+use Rattle.acceptance.proofs.WholeSegment.{whole_run}
+use Rattle.acceptance.proofs.BlockRun.{run_meets_blocks}
 use Rattle.page_tree.specs.Parts.{labels_of, label_of}
 use Rattle.acceptance.specs.File.{Segment}
 use Rattle.acceptance.specs.Events.{counted_events, start_of, end_of, is_valid, valid_rows}

@@ -11,7 +11,7 @@ use Rattle.elf_image.specs.Loaded.{Loaded, byte_of}
 use Rattle.vm_isa.specs.Blocks.{Blocks, is_block, space_size, public_bytes_of}
 use Rattle.vm_transpile.specs.Start.{start_blocks}
 use Rattle.air_core.specs.ListLemmas.{all_weaker}
-use Rattle.exec_path.proofs.Ordering.{range_within}
+use Rattle.air_core.proofs.Ordering.{range_within}
 use Rattle.offline_memory.specs.Pages.{word_at}
 use Rattle.page_tree.specs.Tree.{Leaves}
 use Rattle.page_tree.specs.MapBlocks.{map_block, AreBlocksOf}

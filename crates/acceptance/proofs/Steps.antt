@@ -9,8 +9,8 @@ use Rattle.vm_isa.specs.Means.{Accessed, means_of}
 use Rattle.vm_isa.specs.Words.{IsBytes}
 use Rattle.air_core.specs.Step.{Touched, FourEach, IsMeaning, accessed}
 use Rattle.exec_path.specs.Path.{Point, IsPath}
-use Rattle.offline_memory.specs.BlockMemory.{StepsMeet, after_steps, step_accesses}
-use Rattle.offline_memory.specs.Segment.{RowStep, StepHasBytes, rows_of, timed_row}
+use Rattle.acceptance.specs.BlockRun.{StepsMeet, after_steps, step_accesses}
+use Rattle.acceptance.specs.OneRun.{RowStep, StepHasBytes, rows_of, timed_row}
 use Rattle.acceptance.specs.Spelled.{hint_bytes, low_byte}
 use Rattle.acceptance.proofs.Hints.{any_given, hint_word, hint_four, olds_of}
 use Rattle.acceptance.proofs.Row.{slot_word, step_hint}

@@ -1,5 +1,6 @@
 -- What an accepted file says. Each law is the contract of a function in src/laws.rt.
-use Rattle.std.specs.Prelude.{◌≡◌, ℕ, ◌⊎◌, List, ◌++◌, length, All}
+use Rattle.std.specs.Prelude.{◌≡◌, ℕ, ◌+◌, ◌<◌, ◌≤◌, ◌⊎◌, List, ◌++◌, length, All}
+use Rattle.std.specs.List.{AllByRecursion}
 use Rattle.elf_image.specs.Image.{HasImage}
 use Rattle.elf_image.specs.Loaded.{Loaded}
 use Rattle.rv_run.specs.Run.{Ends}
@@ -9,14 +10,52 @@ use Rattle.vm_isa.specs.Instr.{InRange}
 use Rattle.vm_isa.specs.Words.{IsBytes}
 use Rattle.vm_transpile.specs.Program.{program_of}
 use Rattle.vm_transpile.specs.Start.{vm_start}
+use Rattle.vm_field.specs.Field.{modulus}
+use Rattle.air_core.specs.declared.event.Event.{Event}
+use Rattle.air_core.specs.Balance.{Balanced, BalancedOn}
+use Rattle.air_core.specs.Totals.{SameTotals, is_bus}
 use Rattle.air_core.specs.System.{System}
-use Rattle.offline_memory.specs.BlockMemory.{HasOld, HasNew}
+use Rattle.exec_path.specs.Path.{Point, slot_sum}
+use Rattle.exec_path.specs.PathEvents.{execution_events}
+use Rattle.offline_memory.specs.declared.page.Touched.{Touched}
+use Rattle.offline_memory.specs.BlockMemory.{ArePages, HasOld, HasNew}
+use Rattle.offline_memory.specs.MemoryEvents.{memory_events}
+use Rattle.offline_memory.specs.Pages.{DistinctLabels}
+use Rattle.acceptance.specs.OneRun.{RowStep, TableRow, RowSays, NotOn, OneRun, accesses_of, rows_of, steps_of, run_events}
+use Rattle.acceptance.specs.BlockRun.{StepsMeet, after_steps}
 use Rattle.acceptance.specs.File.{Segment, File}
 use Rattle.acceptance.specs.Events.{valid_rows}
 use Rattle.acceptance.specs.Example.{resting_file}
 use Rattle.acceptance.specs.Holds.{SegmentHolds}
 use Rattle.acceptance.specs.Spelled.{SegmentSpells, Spell}
 use Rattle.acceptance.specs.Accepts.{Accepts, steps_in, IsHeld, Collides}
+
+-- Steps in time are one run, where the execution bus has the sums of the connector and their rows, the
+-- memory bus those of the pages and their accesses, and both balance. The start's time and all slots
+-- are within a bound below p, up to which the rows' tables keep times.
+abbrev pub BalancedStepsAreOneRun : Type 0
+BalancedStepsAreOneRun = (bound : ℕ) (start end : Point) (pages : List Touched) (rows : List TableRow) (events : List Event)
+    → AllByRecursion (RowSays bound) rows → DistinctLabels pages
+    → start.time + slot_sum (rows_of (steps_of rows)) ≤ bound → bound < modulus
+    → BalancedOn (is_bus 0) events → SameTotals 0 events (execution_events start end (rows_of (steps_of rows)))
+    → BalancedOn (is_bus 2) events → SameTotals 2 events (memory_events pages (accesses_of (steps_of rows)))
+    → OneRun start end pages (steps_of rows)
+
+-- The same from all events of a segment. The rows are those of any tables; the others are the events of
+-- the program and of lookup tables.
+abbrev pub BalancedSegmentIsOneRun : Type 0
+BalancedSegmentIsOneRun = (bound : ℕ) (start end : Point) (pages : List Touched) (rows : List TableRow) (others : List Event)
+    → AllByRecursion (RowSays bound) rows → NotOn 0 others → NotOn 2 others → DistinctLabels pages
+    → start.time + slot_sum (rows_of (steps_of rows)) ≤ bound → bound < modulus
+    → Balanced (run_events start end pages rows others) → OneRun start end pages (steps_of rows)
+
+-- Such a run is one on the virtual machine's blocks, where these have the pages' old words, and the pages
+-- lie in their spaces: each step finds its old words in the blocks that the steps before it left, and the
+-- last blocks have the pages' new words, and elsewhere what the first ones had.
+abbrev pub RunsMeetBlocks : Type 0
+RunsMeetBlocks = (start end : Point) (pages : List Touched) (steps : List RowStep) (run : OneRun start end pages steps) (blocks : Blocks)
+    → DistinctLabels pages → ArePages pages → HasOld pages blocks
+    → StepsMeet blocks run.path × HasNew pages blocks (after_steps blocks run.path)
 
 -- what a segment leads to, from blocks that have its pages' old words
 pub record SegmentRuns (program : List VmInstr) (s : Segment) (n : ℕ) (blocks : Blocks) (hints rest : List ℕ) : Type 0 where

@@ -1,7 +1,22 @@
 //! What an accepted file says. Each function is empty: its contract is the law.
-ghost use Rattle.acceptance.specs.Laws.{SegmentsAreRuns, AcceptedFilesAreRunsOnBlocks, AcceptedFilesAreRuns, AcceptedFilesSpell, AcceptedFilesSpellOneList, HeldNodesHave64Bytes, RestingFilesAreAccepted};
+ghost use Rattle.acceptance.specs.Laws.{SegmentsAreRuns, AcceptedFilesAreRunsOnBlocks, AcceptedFilesAreRuns, AcceptedFilesSpell, AcceptedFilesSpellOneList, HeldNodesHave64Bytes, RestingFilesAreAccepted, BalancedStepsAreOneRun, BalancedSegmentIsOneRun, RunsMeetBlocks};
 
 use air_core::Extension;
+
+/// Steps in time whose two buses balance are one path and along it one sequential memory of bytes.
+pub fn balanced_steps_are_one_run()
+    ensures { BalancedStepsAreOneRun }
+{}
+
+/// The valid rows of a segment whose events balance are one run, whatever tables they are of.
+pub fn a_balanced_segment_is_one_run()
+    ensures { BalancedSegmentIsOneRun }
+{}
+
+/// A run is one on the virtual machine's blocks, from the pages' old words to their new ones.
+pub fn a_run_meets_blocks()
+    ensures { RunsMeetBlocks }
+{}
 
 /// A segment that holds is a run on blocks, of as many steps as it has valid rows.
 pub fn segments_are_runs<E: Extension>()

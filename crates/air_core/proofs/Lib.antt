@@ -9,3 +9,5 @@ pub mod ExtensionLemmas
 pub mod RecordLemmas
 pub mod ElementLemmas
 pub mod Counting
+pub mod Totals
+pub mod Ordering

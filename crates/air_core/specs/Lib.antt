@@ -2,6 +2,7 @@ pub mod Padded
 pub mod TupleFields
 pub mod Sink
 pub mod Balance
+pub mod Totals
 pub mod First
 pub mod Flags
 pub mod Sheet

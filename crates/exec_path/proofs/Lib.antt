@@ -1,4 +1,2 @@
-pub mod Ordering
-pub mod Totals
 pub mod PathLemmas
 pub mod OrderLemmas

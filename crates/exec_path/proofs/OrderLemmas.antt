@@ -10,7 +10,7 @@ use Rattle.std.proofs.lemmas.List.FromFn.{fill_by_all, get_or-range_with_len, le
 use Rattle.std.proofs.lemmas.List.Sorted.{IsNonDecreasingBy-from_sort, IsNonDecreasingBy-from_all_adjacent, ties_still_rise, IsPermutation-map, All-permutation}
 use Rattle.air_core.specs.Counts.{once, count_of}
 use Rattle.air_core.proofs.Counting.{weight-IsPermutation}
-use Rattle.exec_path.proofs.Ordering.{Ascends-from_IsNonDecreasingBy, Ascends-map, neighbours_differ, range_counts_once}
+use Rattle.air_core.proofs.Ordering.{Ascends-from_IsNonDecreasingBy, Ascends-map, neighbours_differ, range_counts_once}
 use Rattle.exec_path.specs.declared.order.PathRow.{PathRow}
 use Rattle.exec_path.specs.Path.{TimedRow}
 use Rattle.exec_path.specs.Laws.{OrderIsThePath}

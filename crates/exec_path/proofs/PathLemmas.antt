@@ -13,8 +13,8 @@ use Rattle.air_core.specs.Orders.{Ascends, Rises, Pairwise}
 use Rattle.air_core.specs.ListLemmas.{all_weaker}
 use Rattle.air_core.proofs.ElementLemmas.{all_permuted}
 use Rattle.air_core.proofs.Counting.{weight-map, weight_from_counts, weight-IsPermutation, count_itself}
-use Rattle.exec_path.proofs.Ordering.{in_order, in_order-IsPermutation, in_order-Ascends, rising_permutation_unique}
-use Rattle.exec_path.proofs.Totals.{same_tuple, balanced_same, total_each, total_send-exchange, total_receive-exchange, total_send-given_first, total_receive-given_first}
+use Rattle.air_core.proofs.Ordering.{in_order, in_order-IsPermutation, in_order-Ascends, rising_permutation_unique}
+use Rattle.air_core.proofs.Totals.{same_tuple, balanced_same, total_each, total_send-exchange, total_receive-exchange, total_send-given_first, total_receive-given_first}
 use Rattle.exec_path.specs.Path.{Point, TimedRow, row_from, row_to, same_point, AddsSlots, slot_sum, PathBalanced, IsPath}
 use Rattle.exec_path.specs.PathEvents.{point_tuple, path_events, connector_events, execution_events}
 use Rattle.exec_path.specs.Laws.{BalancedRowsAreOnePath, BalancedEventsBalanceRows, CheckedRowsAreOnePath, RowBalances}

@@ -6,7 +6,8 @@ use Rattle.air_core.specs.declared.event.Event.{Event}
 use Rattle.air_core.specs.Balance.{BalancedOn}
 use Rattle.air_core.specs.Step.{on_bus}
 use Rattle.exec_path.specs.Path.{Point, TimedRow, AddsSlots, PathBalanced, OnePath, slot_sum, row_from, row_to}
-use Rattle.exec_path.specs.PathEvents.{SameTotals, is_bus, execution_events}
+use Rattle.air_core.specs.Totals.{SameTotals, is_bus}
+use Rattle.exec_path.specs.PathEvents.{execution_events}
 use Rattle.exec_path.specs.Order.{IsOrder, path_row, rows_at}
 
 -- Rows that add their slots in the field and balance with a start and an end are one path, where the

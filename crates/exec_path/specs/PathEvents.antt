@@ -1,8 +1,6 @@
 -- The events of the execution bus.
-use Rattle.std.specs.Prelude.{◌≡◌, ℕ, Bool, nat_eq, List, [], ◌∷◌, ◌++◌, flat_map}
+use Rattle.std.specs.Prelude.{ℕ, List, [], ◌∷◌, ◌++◌, flat_map}
 use Rattle.air_core.specs.declared.event.Event.{Event}
-use Rattle.air_core.specs.declared.event.Side.{Side}
-use Rattle.air_core.specs.Balance.{total}
 use Rattle.air_core.specs.Sheet.{sent, received}
 use Rattle.exec_path.specs.Path.{Point, TimedRow, row_from, row_to}
 
@@ -21,11 +19,3 @@ connector_events start end = sent 0 1 (point_tuple start) ∷ received 0 1 (poin
 -- all that is said on the execution bus
 abbrev pub execution_events : Point → Point → List TimedRow → List Event
 execution_events start end rows = connector_events start end ++ flat_map path_events rows
-
--- the test for one bus
-abbrev pub is_bus : ℕ → ℕ → Bool
-is_bus bus other = nat_eq other bus
-
--- on a bus the two lists have the same sum for each side and tuple
-pub record SameTotals (bus : ℕ) (xs ys : List Event) : Type 0 where
-  pub sums : (side : Side) (tuple : List ℕ) → total side bus tuple xs ≡ total side bus tuple ys

@@ -7,7 +7,7 @@ use Rattle.air_core.specs.Counts.{once, count_of, IsEquality}
 use Rattle.air_core.specs.Orders.{Ascends, Rises, Distinct}
 use Rattle.air_core.proofs.ElementLemmas.{all_at, all_permuted}
 use Rattle.air_core.proofs.Counting.{weight-map, weight-IsPermutation, count_itself, count_other, member_from_count}
-use Rattle.exec_path.proofs.Ordering.{in_order, in_order-IsPermutation, in_order-Ascends}
+use Rattle.air_core.proofs.Ordering.{in_order, in_order-IsPermutation, in_order-Ascends}
 use Rattle.offline_memory.specs.Memory.{Access, Block, MemoryBalanced, same_cell, met_cell, left_cell}
 use Rattle.offline_memory.specs.Pages.{blocks_of}
 use Rattle.offline_memory.specs.Laws.{DistinctTimesAreOneMemory}

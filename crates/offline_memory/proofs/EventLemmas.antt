@@ -6,10 +6,10 @@ use Rattle.air_core.specs.declared.event.Event.{Event}
 use Rattle.air_core.specs.declared.event.Side.TheVariants.{Send, Receive}
 use Rattle.air_core.specs.Balance.{total, BalancedOn}
 use Rattle.air_core.proofs.BalanceLemmas.{total-append}
-use Rattle.exec_path.specs.PathEvents.{SameTotals, is_bus}
+use Rattle.air_core.specs.Totals.{SameTotals, is_bus}
 use Rattle.air_core.specs.Counts.{once, count_of}
 use Rattle.air_core.proofs.Counting.{weight-map}
-use Rattle.exec_path.proofs.Totals.{balanced_same, total_each, total_send-exchange, total_receive-exchange, total_send-given_first, total_receive-given_first}
+use Rattle.air_core.proofs.Totals.{balanced_same, total_each, total_send-exchange, total_receive-exchange, total_send-given_first, total_receive-given_first}
 use Rattle.offline_memory.specs.declared.page.Touched.{Touched}
 use Rattle.offline_memory.specs.Memory.{Cell, cell_tuple, same_cell, Access, met_cell, left_cell, Block, first_cell, last_cell, MemoryBalanced}
 use Rattle.offline_memory.specs.Pages.{page_blocks, blocks_of}

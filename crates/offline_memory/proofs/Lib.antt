@@ -5,7 +5,4 @@ pub mod PageLemmas
 pub mod AnyOrder
 pub mod EventLemmas
 pub mod BoundaryLemmas
-pub mod StepTimes
-pub mod SegmentLemmas
-pub mod WholeSegment
 pub mod BlockLemmas

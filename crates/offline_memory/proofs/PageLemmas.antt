@@ -9,7 +9,7 @@ use Rattle.air_core.proofs.ElementLemmas.{all_map, all_at, all_flat_map, all_fro
 use Rattle.air_core.specs.ListLemmas.{all_weaker}
 use Rattle.air_core.proofs.Counting.{count_member, member_from_count}
 use Rattle.offline_memory.proofs.Pairs.{Pairwise-map, Pairwise-weaker, Pairwise-flat_map, Across}
-use Rattle.exec_path.proofs.Ordering.{range_within, range-Rises, range_member}
+use Rattle.air_core.proofs.Ordering.{range_within, range-Rises, range_member}
 use Rattle.offline_memory.specs.declared.page.Touched.{Touched}
 use Rattle.offline_memory.specs.Memory.{Cell, Access, Block, met_cell, left_cell, first_cell, last_cell, same_cell, MemoryBalanced, InTime, place_of}
 use Rattle.vm_isa.specs.Words.{IsBytes}

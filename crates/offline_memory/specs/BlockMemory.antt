@@ -1,13 +1,10 @@
--- A run of steps as the virtual machine's memory of blocks meets it.
-use Rattle.std.specs.Prelude.{◌≡◌, ℕ, ◌+◌, ◌*◌, ◌%◌, ◌<◌, ◌≤◌, List, [], ◌∷◌, map}
+-- Pages as the virtual machine's memory of blocks has them.
+use Rattle.std.specs.Prelude.{◌≡◌, ℕ, ◌+◌, ◌*◌, ◌%◌, ◌<◌, ◌≤◌, List}
 use Rattle.std.specs.List.{AllByRecursion}
-use Rattle.vm_isa.specs.Blocks.{Blocks, Meets, after_accesses, space_size}
-use Rattle.vm_isa.specs.Means.{Accessed}
-use Rattle.air_core.specs.Step.{accessed}
+use Rattle.vm_isa.specs.Blocks.{Blocks, space_size}
 use Rattle.air_core.specs.Orders.{Member}
 use Rattle.offline_memory.specs.declared.page.Touched.{Touched}
 use Rattle.offline_memory.specs.Pages.{page_space, block_pointer, word_at, InPages}
-use Rattle.offline_memory.specs.Segment.{RowStep}
 
 -- the 64 bytes of a page lie in its space
 abbrev pub IsPage : ℕ → Type 0
@@ -24,16 +21,3 @@ pub record HasOld (pages : List Touched) (blocks : Blocks) : Type 0 where
 pub record HasNew (pages : List Touched) (old new : Blocks) : Type 0 where
   pub has : (page : Touched) (block : ℕ) → Member page pages → block < 16 → new (page_space page.label) (block_pointer page.label block) ≡ word_at page.new block
   pub other : (space pointer : ℕ) → (InPages pages space pointer → ⊥) → new space pointer ≡ old space pointer
-
-abbrev pub step_accesses : RowStep → List Accessed
-step_accesses step = map accessed step.accesses
-
--- each step finds its old words in the blocks that the steps before it left
-abbrev pub StepsMeet : Blocks → List RowStep → Type 0
-StepsMeet blocks [] = Unit {0}
-StepsMeet blocks (step ∷ more) = Meets blocks (step_accesses step) × StepsMeet (after_accesses blocks (step_accesses step)) more
-
--- what the steps leave
-abbrev pub after_steps : Blocks → List RowStep → Blocks
-after_steps blocks [] = blocks
-after_steps blocks (step ∷ more) = after_steps (after_accesses blocks (step_accesses step)) more

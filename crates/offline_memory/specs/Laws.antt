@@ -1,20 +1,15 @@
 -- The laws of one sequential memory. Each is the contract of a function in src/laws.rt.
-use Rattle.std.specs.Prelude.{ℕ, ◌+◌, ◌<◌, ◌≤◌, List, flat_map, map}
+use Rattle.std.specs.Prelude.{◌<◌, List, flat_map, map}
 use Rattle.std.specs.List.{AllByRecursion}
-use Rattle.vm_field.specs.Field.{modulus}
 use Rattle.air_core.specs.declared.event.Event.{Event}
-use Rattle.air_core.specs.Balance.{Balanced, BalancedOn}
-use Rattle.vm_isa.specs.Blocks.{Blocks}
+use Rattle.air_core.specs.Balance.{BalancedOn}
 use Rattle.air_core.specs.Orders.{Distinct}
-use Rattle.exec_path.specs.Path.{Point, slot_sum}
-use Rattle.exec_path.specs.PathEvents.{SameTotals, is_bus, execution_events}
+use Rattle.air_core.specs.Totals.{SameTotals, is_bus}
 use Rattle.offline_memory.specs.declared.page.Touched.{Touched}
 use Rattle.offline_memory.specs.Memory.{Access, MemoryBalanced, InTime}
 use Rattle.offline_memory.specs.Bytes.{KeepBytes, HasBytes}
 use Rattle.offline_memory.specs.Pages.{blocks_of, DistinctLabels, PagesOfBytes, SequentialMemory, OrderedMemory, IsOldTime, MemoryOfPages, UntouchedStays}
 use Rattle.offline_memory.specs.MemoryEvents.{memory_events}
-use Rattle.offline_memory.specs.BlockMemory.{ArePages, HasOld, HasNew, StepsMeet, after_steps}
-use Rattle.offline_memory.specs.Segment.{RowStep, TableRow, RowSays, NotOn, OneRun, accesses_of, rows_of, steps_of, segment_events}
 
 -- Accesses in the order of time, with each old time before its own, that balance with pages of different
 -- labels are one sequential memory. No bound on times is needed.
@@ -53,30 +48,3 @@ UntouchedBlocksStay = (pages : List Touched) (accesses : List Access) → Distin
 abbrev pub BalancedEventsBalanceAccesses : Type 0
 BalancedEventsBalanceAccesses = (pages : List Touched) (accesses : List Access) (events : List Event) → BalancedOn (is_bus 2) events
     → SameTotals 2 events (memory_events pages accesses) → MemoryBalanced (blocks_of pages) accesses
-
--- Steps in time are one run, where the execution bus has the sums of the connector and their rows, the
--- memory bus those of the pages and their accesses, and both balance. The start's time and all slots
--- are within a bound below p, up to which the rows' tables keep times.
-abbrev pub BalancedStepsAreOneRun : Type 0
-BalancedStepsAreOneRun = (bound : ℕ) (start end : Point) (pages : List Touched) (rows : List TableRow) (events : List Event)
-    → AllByRecursion (RowSays bound) rows → DistinctLabels pages
-    → start.time + slot_sum (rows_of (steps_of rows)) ≤ bound → bound < modulus
-    → BalancedOn (is_bus 0) events → SameTotals 0 events (execution_events start end (rows_of (steps_of rows)))
-    → BalancedOn (is_bus 2) events → SameTotals 2 events (memory_events pages (accesses_of (steps_of rows)))
-    → OneRun start end pages (steps_of rows)
-
--- The same from all events of a segment. The rows are those of any tables; the others are the events of
--- the program and of lookup tables.
-abbrev pub BalancedSegmentIsOneRun : Type 0
-BalancedSegmentIsOneRun = (bound : ℕ) (start end : Point) (pages : List Touched) (rows : List TableRow) (others : List Event)
-    → AllByRecursion (RowSays bound) rows → NotOn 0 others → NotOn 2 others → DistinctLabels pages
-    → start.time + slot_sum (rows_of (steps_of rows)) ≤ bound → bound < modulus
-    → Balanced (segment_events start end pages rows others) → OneRun start end pages (steps_of rows)
-
--- Such a run is one on the virtual machine's blocks, where these have the pages' old words, and the pages
--- lie in their spaces: each step finds its old words in the blocks that the steps before it left, and the
--- last blocks have the pages' new words, and elsewhere what the first ones had.
-abbrev pub RunsMeetBlocks : Type 0
-RunsMeetBlocks = (start end : Point) (pages : List Touched) (steps : List RowStep) (run : OneRun start end pages steps) (blocks : Blocks)
-    → DistinctLabels pages → ArePages pages → HasOld pages blocks
-    → StepsMeet blocks run.path × HasNew pages blocks (after_steps blocks run.path)

@@ -2,6 +2,5 @@ pub mod Memory
 pub mod Bytes
 pub mod Pages
 pub mod MemoryEvents
-pub mod Segment
 pub mod BlockMemory
 pub mod Laws

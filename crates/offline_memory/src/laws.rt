@@ -1,5 +1,5 @@
 // What follows from the balance of the memory bus. A law is the contract of a function without a body.
-ghost use Rattle.offline_memory.specs.Laws.{BalancedAccessesAreOneMemory, BalancedAccessesHaveBytes, BalancedEventsBalanceAccesses, BalancedSegmentIsOneRun, BalancedStepsAreOneRun, DistinctTimesAreOneMemory, OldTimesAreAccessTimes, PagesAreMemories, RunsMeetBlocks, UntouchedBlocksStay};
+ghost use Rattle.offline_memory.specs.Laws.{BalancedAccessesAreOneMemory, BalancedAccessesHaveBytes, BalancedEventsBalanceAccesses, DistinctTimesAreOneMemory, OldTimesAreAccessTimes, PagesAreMemories, UntouchedBlocksStay};
 
 /// Accesses in the order of time that balance with pages of different labels are one sequential memory.
 pub fn balanced_accesses_are_one_memory()
@@ -34,19 +34,4 @@ pub fn untouched_blocks_stay()
 /// Where the memory bus balances, its accesses balance with the pages.
 pub fn balanced_events_balance_accesses()
     ensures { BalancedEventsBalanceAccesses }
-{}
-
-/// Steps in time whose two buses balance are one path and along it one sequential memory of bytes.
-pub fn balanced_steps_are_one_run()
-    ensures { BalancedStepsAreOneRun }
-{}
-
-/// The valid rows of a segment whose events balance are one run, whatever tables they are of.
-pub fn a_balanced_segment_is_one_run()
-    ensures { BalancedSegmentIsOneRun }
-{}
-
-/// A run is one on the virtual machine's blocks, from the pages' old words to their new ones.
-pub fn a_run_meets_blocks()
-    ensures { RunsMeetBlocks }
 {}

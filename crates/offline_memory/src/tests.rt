@@ -164,31 +164,53 @@ fn balance_is_replay(rt: HostRuntime) -> Result<(), Fail> {
     Ok(())
 }
 
-#[test]
-fn events_of_a_page(rt: HostRuntime) -> Result<(), Fail> {
+/// A label, its space, and the pointers of the page's first and last block.
+type Place = (u32, u32, u32, u32);
+
+const PLACES: [Place; 4] = [
+    (8_388_609, 1, 64, 124),
+    (16_777_219, 2, 192, 252),
+    (25_165_823, 2, 536_870_848, 536_870_908),
+    // the page of public bytes
+    (25_165_824, 3, 0, 60),
+];
+
+/// A page whose old bytes count up from 0, and its new ones from 100.
+fn counted_page(label: u32) -> Touched {
     let mut page = page_of(&[]);
-    page.label = 16_777_219;
+    page.label = label;
     for k in 0..64 {
         page.old[k] = k as u8;
         page.new[k] = 100 + k as u8;
     }
     page.times[0] = 11;
     page.times[15] = 536_870_911;
-    let mut events = EventList::new(rt.alloc());
-    boundary_events(&page, &mut events)?;
-    let events = events.as_slice();
-    assert_eq!(rt; events.len(), 32);
-    let lines: [(usize, Side, [u32; 7]); 4] = [
-        (0, Side::Send, [2, 192, 0, 1, 2, 3, 0]),
-        (1, Side::Receive, [2, 192, 100, 101, 102, 103, 11]),
-        (30, Side::Send, [2, 252, 60, 61, 62, 63, 0]),
-        (31, Side::Receive, [2, 252, 160, 161, 162, 163, 536_870_911]),
-    ];
-    for (place, side, tuple) in lines {
-        let event = events.get(place).ok_or("an event is missing")?;
-        assert_eq!(rt; event.side, side);
-        assert!(rt; event.tuple.as_slice() == tuple.as_slice());
-        assert!(rt; event.bus == 2 && event.count == 1);
+    page
+}
+
+#[test]
+fn events_of_a_page(rt: HostRuntime) -> Result<(), Fail> {
+    for (label, space, first, last) in PLACES {
+        let mut events = EventList::new(rt.alloc());
+        boundary_events(&counted_page(label), &mut events)?;
+        let events = events.as_slice();
+        assert_eq!(rt; events.len(), 32);
+        let lines: [(usize, Side, [u32; 7]); 4] = [
+            (0, Side::Send, [space, first, 0, 1, 2, 3, 0]),
+            (1, Side::Receive, [space, first, 100, 101, 102, 103, 11]),
+            (30, Side::Send, [space, last, 60, 61, 62, 63, 0]),
+            (
+                31,
+                Side::Receive,
+                [space, last, 160, 161, 162, 163, 536_870_911],
+            ),
+        ];
+        for (place, side, tuple) in lines {
+            let event = events.get(place).ok_or("an event is missing")?;
+            assert_eq!(rt; event.side, side);
+            assert!(rt; event.tuple.as_slice() == tuple.as_slice());
+            assert!(rt; event.bus == 2 && event.count == 1);
+        }
     }
     Ok(())
 }

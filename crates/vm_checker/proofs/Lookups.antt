@@ -18,8 +18,9 @@ use Rattle.air_core.specs.Step.{on_bus}
 use Rattle.air_core.proofs.BalanceLemmas.{member_of_total}
 use Rattle.air_core.specs.Orders.{Member}
 use Rattle.air_core.proofs.ElementLemmas.{all_flat_map, all_from_members, all_at, member_left, member_right, member_piece}
-use Rattle.exec_path.specs.PathEvents.{connector_events, SameTotals}
-use Rattle.exec_path.proofs.Totals.{SameTotals-listed}
+use Rattle.air_core.specs.Totals.{SameTotals}
+use Rattle.exec_path.specs.PathEvents.{connector_events}
+use Rattle.air_core.proofs.Totals.{SameTotals-listed}
 use Rattle.table_format.specs.declared.CountEntry.{CountEntry}
 use Rattle.table_format.specs.File.{FileValue}
 use Rattle.acceptance.specs.Events.{received_row}

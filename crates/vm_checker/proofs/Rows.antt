@@ -19,9 +19,10 @@ use Rattle.air_core.specs.Laws.{Buses, Fits, Sound}
 use Rattle.air_core.specs.ListLemmas.{on_bus_none, all_append, all_weaker}
 use Rattle.air_core.specs.Orders.{Member}
 use Rattle.exec_path.specs.Path.{TimedRow, AddsSlots, slot_sum}
-use Rattle.exec_path.specs.PathEvents.{SameTotals, path_events}
+use Rattle.air_core.specs.Totals.{SameTotals}
+use Rattle.exec_path.specs.PathEvents.{path_events}
 use Rattle.air_core.proofs.Counting.{weight-append}
-use Rattle.exec_path.proofs.Totals.{SameTotals-listed, SameTotals-append}
+use Rattle.air_core.proofs.Totals.{SameTotals-listed, SameTotals-append}
 use Rattle.table_format.specs.File.{FileValue}
 use Rattle.acceptance.proofs.Row.{on_bus_member}
 use Rattle.vm_checker.specs.Accepts.{is_path_bus, IsPathTable, file_events, is_valid}

@@ -12,11 +12,12 @@ use Rattle.air_core.specs.Sheet.{Sheet, RowHolds, IsRow, row_events}
 use Rattle.air_core.specs.Balance.{BalancedOn}
 use Rattle.air_core.specs.Laws.{Buses, Fits, Sound}
 use Rattle.exec_path.specs.Path.{Point, TimedRow, IsPath, row_to, slot_sum}
-use Rattle.exec_path.specs.PathEvents.{SameTotals, is_bus, path_events, connector_events, execution_events}
+use Rattle.air_core.specs.Totals.{SameTotals, is_bus}
+use Rattle.exec_path.specs.PathEvents.{path_events, connector_events, execution_events}
 use Rattle.air_core.proofs.ElementLemmas.{all_permuted, all_from_members, all_at}
 use Rattle.air_core.specs.ListLemmas.{all_weaker}
 use Rattle.exec_path.proofs.PathLemmas.{checked_path}
-use Rattle.exec_path.proofs.Totals.{SameTotals-append}
+use Rattle.air_core.proofs.Totals.{SameTotals-append}
 use Rattle.elf_image.specs.Loaded.{Loaded}
 use Rattle.table_format.specs.File.{FileValue, IsFile, AreRows, IsRow as IsFileRow}
 use Rattle.vm_transpile.specs.Program.{program_of}

@@ -1,4 +1,4 @@
-use Rattle.exec_path.proofs.Totals.{SameTotals-listed}
+use Rattle.air_core.proofs.Totals.{SameTotals-listed}
 use Rattle.exec_path.proofs.laws.listed_events_have_the_sums.Goals as goal
 
 pub returns : goal.returns

@@ -12,18 +12,19 @@ use Rattle.air_core.specs.Step.{Touched as RowAccess, touched_events, on_bus}
 use Rattle.air_core.proofs.BalanceLemmas.{total-append, total-cons}
 use Rattle.air_core.specs.Counts.{weight}
 use Rattle.exec_path.specs.Path.{Point, TimedRow}
-use Rattle.exec_path.specs.PathEvents.{SameTotals, is_bus, path_events, connector_events, execution_events}
+use Rattle.air_core.specs.Totals.{SameTotals, is_bus}
+use Rattle.exec_path.specs.PathEvents.{path_events, connector_events, execution_events}
 use Rattle.air_core.specs.ListLemmas.{all_append, all_weaker}
 use Rattle.exec_path.proofs.PathLemmas.{one_path, rows_balance}
-use Rattle.exec_path.proofs.Totals.{total-on_bus, total_each, SameTotals-flat_map}
+use Rattle.air_core.proofs.Totals.{total-on_bus, total_each, SameTotals-flat_map}
 use Rattle.offline_memory.specs.declared.page.Touched.{Touched}
 use Rattle.offline_memory.specs.Memory.{Access}
 use Rattle.offline_memory.specs.Pages.{page_blocks}
 use Rattle.offline_memory.specs.MemoryEvents.{access_events, block_events, boundary_events, memory_events}
-use Rattle.offline_memory.specs.Segment.{RowStep, TableRow, NotOn, SaysIfValid, RowSays, access_at, timed_accesses, accesses_of, timed_row, rows_of, step_list, steps_of, segment_events}
-use Rattle.offline_memory.specs.Laws.{BalancedStepsAreOneRun, BalancedSegmentIsOneRun}
+use Rattle.acceptance.specs.OneRun.{RowStep, TableRow, NotOn, SaysIfValid, RowSays, access_at, timed_accesses, accesses_of, timed_row, rows_of, step_list, steps_of, run_events}
+use Rattle.acceptance.specs.Laws.{BalancedStepsAreOneRun, BalancedSegmentIsOneRun}
 use Rattle.offline_memory.proofs.EventLemmas.{accesses_balance}
-use Rattle.offline_memory.proofs.SegmentLemmas.{Known, run_of_steps}
+use Rattle.acceptance.proofs.RunOfSteps.{Known, run_of_steps}
 
 -- events that are not on a bus have no sum there
 total_elsewhere : (side : Side) (bus : ℕ) (tuple : List ℕ) (events : List Event) → NotOn bus events → total side bus tuple events ≡ 0
@@ -98,7 +99,7 @@ pages_elsewhere side tuple pages =
     total_each side 0 tuple boundary_events (λ _. 0) (λ page. total_each side 0 tuple block_events (λ _. 0) (λ b. total_elsewhere side 0 tuple (block_events b) (λ e. omega (arith, e), (λ e. omega (arith, e), tt))) (page_blocks page) ∙ none (page_blocks page)) pages
     ∙ none pages
 
-same_execution : (bound : ℕ) (start end : Point) (pages : List Touched) (rows : List TableRow) (others : List Event) → NotOn 0 others → AllByRecursion (RowSays bound) rows → SameTotals 0 (segment_events start end pages rows others) (execution_events start end (rows_of (steps_of rows)))
+same_execution : (bound : ℕ) (start end : Point) (pages : List Touched) (rows : List TableRow) (others : List Event) → NotOn 0 others → AllByRecursion (RowSays bound) rows → SameTotals 0 (run_events start end pages rows others) (execution_events start end (rows_of (steps_of rows)))
 same_execution bound start end pages rows others away says =
     let of_rows : SameTotals 0 (flat_map (λ (row : TableRow). row.events) rows) (flat_map (λ (row : TableRow). flat_map path_events (rows_of (step_list row.step))) rows) =
     SameTotals-flat_map 0 (λ (row : TableRow). row.events) (λ row. flat_map path_events (rows_of (step_list row.step))) rows
@@ -118,7 +119,7 @@ same_execution bound start end pages rows others away says =
           );
     }
 
-same_memory : (bound : ℕ) (start end : Point) (pages : List Touched) (rows : List TableRow) (others : List Event) → NotOn 2 others → AllByRecursion (RowSays bound) rows → SameTotals 2 (segment_events start end pages rows others) (memory_events pages (accesses_of (steps_of rows)))
+same_memory : (bound : ℕ) (start end : Point) (pages : List Touched) (rows : List TableRow) (others : List Event) → NotOn 2 others → AllByRecursion (RowSays bound) rows → SameTotals 2 (run_events start end pages rows others) (memory_events pages (accesses_of (steps_of rows)))
 same_memory bound start end pages rows others away says =
     let of_rows : SameTotals 2 (flat_map (λ (row : TableRow). row.events) rows) (flat_map (λ (row : TableRow). flat_map access_events (accesses_of (step_list row.step))) rows) =
     SameTotals-flat_map 2 (λ (row : TableRow). row.events) (λ row. flat_map access_events (accesses_of (step_list row.step))) rows
@@ -143,6 +144,6 @@ one_bus bus events balanced = record { even = λ b tuple on. balanced.even b tup
 
 pub whole_run : BalancedSegmentIsOneRun
 whole_run bound start end pages rows others says away_0 away_2 labels low high balanced =
-    one_run bound start end pages rows (segment_events start end pages rows others) says labels low high
-    (one_bus 0 (segment_events start end pages rows others) balanced) (same_execution bound start end pages rows others away_0 says)
-    (one_bus 2 (segment_events start end pages rows others) balanced) (same_memory bound start end pages rows others away_2 says)
+    one_run bound start end pages rows (run_events start end pages rows others) says labels low high
+    (one_bus 0 (run_events start end pages rows others) balanced) (same_execution bound start end pages rows others away_0 says)
+    (one_bus 2 (run_events start end pages rows others) balanced) (same_memory bound start end pages rows others away_2 says)

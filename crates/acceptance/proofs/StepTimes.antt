@@ -8,7 +8,7 @@ use Rattle.air_core.specs.Orders.{Rises}
 use Rattle.air_core.specs.ListLemmas.{all_weaker}
 use Rattle.offline_memory.specs.Memory.{Access}
 use Rattle.offline_memory.specs.Bytes.{KeepBytes, HasBytes}
-use Rattle.offline_memory.specs.Segment.{access_at}
+use Rattle.acceptance.specs.OneRun.{access_at}
 
 -- within these slots from a time on
 abbrev pub Within : ℕ → ℕ → ℕ → Access → Type 0

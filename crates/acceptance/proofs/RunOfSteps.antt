@@ -11,16 +11,16 @@ use Rattle.exec_path.specs.Path.{Point, TimedRow, AddsSlots, slot_sum, IsPath, O
 use Rattle.air_core.proofs.ElementLemmas.{all_both, all_permuted, all_map, all_unmap, all_flat_map, all_at}
 use Rattle.air_core.specs.ListLemmas.{all_weaker, all_append, all_left, all_right}
 use Rattle.air_core.proofs.Counting.{weight-map, weight-flat_map_permuted}
-use Rattle.exec_path.proofs.Ordering.{in_order, in_order-IsPermutation, in_order-Ascends, Ascends-map}
+use Rattle.air_core.proofs.Ordering.{in_order, in_order-IsPermutation, in_order-Ascends, Ascends-map}
 use Rattle.exec_path.proofs.PathLemmas.{Advances, advance, path_apart, before_end, after_start}
 use Rattle.offline_memory.specs.declared.page.Touched.{Touched}
 use Rattle.offline_memory.specs.Memory.{same_cell, Access, met_cell, left_cell, Block, MemoryBalanced, InTime}
 use Rattle.offline_memory.specs.Bytes.{KeepBytes, HasBytes}
 use Rattle.offline_memory.specs.Pages.{blocks_of, DistinctLabels, IsOldTime}
-use Rattle.offline_memory.specs.Segment.{RowStep, timed_accesses, accesses_of, timed_row, rows_of, WholeTimes, StepHasBytes, OneRun}
+use Rattle.acceptance.specs.OneRun.{RowStep, timed_accesses, accesses_of, timed_row, rows_of, WholeTimes, StepHasBytes, OneRun}
 use Rattle.offline_memory.proofs.Pairs.{Across, Pairwise-with, Pairwise-flat_map, Pairwise-unmap}
 use Rattle.offline_memory.proofs.PageLemmas.{one_memory, all_bytes, old_times}
-use Rattle.offline_memory.proofs.StepTimes.{Within, slot_times, slots_rise, whole_accesses, olds_before_own, new_bytes_kept, bytes_of_row}
+use Rattle.acceptance.proofs.StepTimes.{Within, slot_times, slots_rise, whole_accesses, olds_before_own, new_bytes_kept, bytes_of_row}
 
 -- what is known of a step in time
 pub record Known (bound : ℕ) (step : RowStep) : Type 0 where

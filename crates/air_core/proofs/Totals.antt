@@ -12,7 +12,7 @@ use Rattle.air_core.specs.Sheet.{sent, received}
 use Rattle.air_core.specs.Step.{on_bus, if_on}
 use Rattle.air_core.proofs.BalanceLemmas.{total-append, total-cons, total-IsPermutation}
 use Rattle.air_core.specs.Counts.{weight, once}
-use Rattle.exec_path.specs.PathEvents.{SameTotals, is_bus}
+use Rattle.air_core.specs.Totals.{SameTotals, is_bus}
 
 -- the test for equal tuples
 abbrev pub same_tuple : List ℕ → List ℕ → Bool

@@ -73,8 +73,8 @@ abbrev pub steps_of : List TableRow → List RowStep
 steps_of rows = flat_map (λ (row : TableRow). step_list row.step) rows
 
 -- all events of a segment: the connector's, the rows', the pages', and others, as those of lookup tables
-abbrev pub segment_events : Point → Point → List Touched → List TableRow → List Event → List Event
-segment_events start end pages rows others =
+abbrev pub run_events : Point → Point → List Touched → List TableRow → List Event → List Event
+run_events start end pages rows others =
     connector_events start end ++ (flat_map (λ (row : TableRow). row.events) rows ++ (flat_map boundary_events pages ++ others))
 
 -- the row's time, and those of its accesses, do not wrap

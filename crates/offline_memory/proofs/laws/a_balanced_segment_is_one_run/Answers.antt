@@ -1,5 +1,0 @@
-use Rattle.offline_memory.proofs.WholeSegment.{whole_run}
-use Rattle.offline_memory.proofs.laws.a_balanced_segment_is_one_run.Goals as goal
-
-pub returns : goal.returns
-returns c = whole_run
