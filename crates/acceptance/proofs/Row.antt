@@ -1,5 +1,5 @@
 -- One row: its step, its time and its hint.
-use Rattle.std.proofs.Common.{◌≡◌, ℕ, suc, ◌+◌, ◌<◌, ◌≤◌, Bool, true, false, cond, ◌||◌, nat_eq, List, [], ◌∷◌, ◌++◌, length, refl, sym, ap, ◌∙◌, subst, arith, inl, inr, Contains, length-append}
+use Rattle.std.proofs.Common.{◌≡◌, ℕ, suc, ◌+◌, ◌<◌, ◌≤◌, Bool, true, false, cond, ◌||◌, nat_eq, List, [], ◌∷◌, ◌++◌, refl, sym, ap, ◌∙◌, subst, arith, inl, inr, Contains}
 use Rattle.std.specs.Prelude.{flat_map, if◌then◌else◌}
 use Rattle.std.specs.List.{AllByRecursion, list_any}
 use Rattle.std.proofs.lemmas.Bool.{ne_eqb, eq-eqb, eqb-true}
@@ -17,6 +17,7 @@ use Rattle.air_core.specs.Step.{Touched, touched_events, Rising, on_bus, if_on, 
 use Rattle.air_core.specs.System.{time_if, times_of}
 use Rattle.air_core.specs.ListLemmas.{all_weaker}
 use Rattle.air_core.proofs.ElementLemmas.{all_at, all_from_members, member_left, member_right, member_flat_map, member_piece, member_cases}
+use Rattle.air_core.proofs.StepLaws.{last_same}
 use Rattle.acceptance.specs.OneRun.{RowStep}
 use Rattle.acceptance.specs.Events.{is_valid}
 
@@ -139,17 +140,6 @@ slot_word_of from slots a (x ∷ xs) r (inl same) is = rw (eq-eqb x.slot 1 (ap (
 slot_word_of from slots a (x ∷ xs) r (inr h) is =
     let later = all_at (λ b. (x.slot + 1 ≤ b.slot) × (b.slot < slots)) xs a h (rising_low (x.slot + 1) slots xs r.2) in
     rw (ne_eqb x.slot 1 (λ e. omega (arith, e, is, later.0))) (slot_word_of (x.slot + 1) slots a xs r.2 h is)
-
--- a list of one number more tells that number
-last_same : (xs ys : List ℕ) (a b : ℕ) → xs ++ (a ∷ []) ≡ ys ++ (b ∷ []) → (xs ≡ ys) × (a ≡ b)
-last_same [] [] a b e = (refl, cc)
-last_same [] (y ∷ ys) a b e = absurd (omega (arith, ap length e, length-append ys (b ∷ [])))
-last_same (x ∷ xs) [] a b e = absurd (omega (arith, ap length e, length-append xs (a ∷ [])))
-last_same (x ∷ xs) (y ∷ ys) a b e =
-    let tail : xs ++ (a ∷ []) ≡ ys ++ (b ∷ []) = cc in
-    let head : x ≡ y = cc in
-    let rest = last_same xs ys a b tail in
-    (rw (head, rest.0) refl, rest.1)
 
 slot_one : (time slot : ℕ) → time < modulus → slot < 64 → field_add time slot ≡ field_add time 1 → slot ≡ 1
 slot_one time slot below few e = omega arith

@@ -1,14 +1,15 @@
 -- The leaves at the start are the machine's blocks, and the leaf of public bytes is what the machine makes public.
-use Rattle.std.proofs.Common.{◌≡◌, ◌≢◌, ℕ, zero, suc, ◌+◌, ◌*◌, ◌/◌, ◌%◌, ◌<◌, ◌≤◌, true, nat_eq, nat_lt, List, [], ◌∷◌, ◌++◌, length, map, drop, replicate, slice_index, refl, sym, ap, ◌∙◌, subst, arith, ⊎_elim}
+use Rattle.std.proofs.Common.{◌≡◌, ◌≢◌, ℕ, zero, suc, ◌+◌, ◌*◌, ◌/◌, ◌%◌, ◌<◌, ◌≤◌, true, List, [], ◌∷◌, ◌++◌, length, map, drop, replicate, slice_index, refl, sym, ap, ◌∙◌, subst, arith, ⊎_elim}
 use Rattle.std.specs.Prelude.{flat_map}
 use Rattle.std.specs.List.{AllByRecursion, range_with_len}
-use Rattle.std.proofs.lemmas.Bool.{cases_eq, eqb-true, ne_eqb, eq-eqb, and_parts}
+use Rattle.std.proofs.lemmas.Bool.{cases_eq, ne_eqb}
 use Rattle.std.proofs.lemmas.Bool.Decides.{nat_tests}
 use Rattle.std.proofs.lemmas.List.{get_or-replicate}
 use Rattle.std.proofs.lemmas.List.FromFn.{get_or-map-range_with_len}
 use native.Mathlib.Numerals.{unary_clauses}
 use Rattle.elf_image.specs.Loaded.{Loaded, byte_of}
-use Rattle.vm_isa.specs.Blocks.{Blocks, is_block, space_size, public_bytes_of}
+use Rattle.vm_isa.specs.Blocks.{Blocks, is_block, public_bytes_of}
+use Rattle.vm_isa.proofs.SpaceLaws.{block_low}
 use Rattle.vm_transpile.specs.Start.{start_blocks}
 use Rattle.air_core.specs.ListLemmas.{all_weaker}
 use Rattle.air_core.proofs.Ordering.{range_within}
@@ -17,14 +18,6 @@ use Rattle.page_tree.specs.Tree.{Leaves}
 use Rattle.page_tree.specs.MapBlocks.{map_block, AreBlocksOf}
 use Rattle.page_tree.specs.Start.{memory_leaf, start_map}
 use Rattle.page_tree.proofs.StartLemmas.{start_map-in, start_map-out}
-
-below_from_test : (a b : ℕ) → nat_lt a b ≡ true → a < b
-below_from_test a b h = grind (arith, nat_tests)
-
-block_parts : (space pointer : ℕ) → is_block space pointer ≡ true → (pointer % 4 ≡ 0) × (pointer < space_size space)
-block_parts space pointer h =
-    let parts = and_parts (nat_eq (pointer % 4) 0) (nat_lt pointer (space_size space)) h in
-    (eqb-true (pointer % 4) 0 parts.0, below_from_test pointer (space_size space) parts.1)
 
 -- ---- memory
 
@@ -69,26 +62,11 @@ elsewhere image space pointer other low =
     ∙ sym (zero_word (pointer % 64 / 4) (omega arith))
     ∙ ap (λ (bytes : List ℕ). word_at bytes (pointer % 64 / 4)) (sym (start_map-out image (8388608 * space + pointer / 64) (λ e. other (omega (arith, e, low)))))
 
-size_small : (space : ℕ) → space_size space ≤ 536870912
-size_small space =
-    ⊎_elim
-    (λ (registers : space ≡ 1). rw (eq-eqb space 1 registers) (omega arith))
-    (λ (not_1 : space ≡ 1 → ⊥).
-    ⊎_elim
-    (λ (memory : space ≡ 2). rw (ne_eqb space 1 not_1, eq-eqb space 2 memory) (omega arith))
-    (λ (not_2 : space ≡ 2 → ⊥).
-    ⊎_elim
-    (λ (public : space ≡ 3). rw (ne_eqb space 1 not_1, ne_eqb space 2 not_2, eq-eqb space 3 public) (omega arith))
-    (λ (not_3 : space ≡ 3 → ⊥). rw (ne_eqb space 1 not_1, ne_eqb space 2 not_2, ne_eqb space 3 not_3) (omega arith))
-    (cases_eq space 3))
-    (cases_eq space 2))
-    (cases_eq space 1)
-
 pub start_blocks_are : (image : Loaded) → AreBlocksOf (start_map image) (start_blocks image)
 start_blocks_are image = record {
   each = λ space pointer is.
-      let parts = block_parts space pointer is in
-      let low : pointer < 536870912 = omega (arith, parts.1, size_small space) in
+      let parts = block_low space pointer is in
+      let low = parts.1 in
       ⊎_elim
       (λ (memory : space ≡ 2). subst (λ (n : ℕ). start_blocks image n pointer ≡ map_block (start_map image) n pointer) (sym memory) (in_memory image pointer parts.0 low))
       (λ (other : space ≡ 2 → ⊥). elsewhere image space pointer other low)

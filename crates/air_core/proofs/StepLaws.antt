@@ -12,7 +12,7 @@ use Rattle.air_core.specs.Laws.{Sound}
 use Rattle.air_core.specs.Step.{Touched, touched_events, Rising, on_bus, IsStep, SoundStep, IsMeaning}
 
 -- a list of one number more tells that number
-last_same : (xs ys : List ℕ) (a b : ℕ) → xs ++ (a ∷ []) ≡ ys ++ (b ∷ []) → (xs ≡ ys) × (a ≡ b)
+pub last_same : (xs ys : List ℕ) (a b : ℕ) → xs ++ (a ∷ []) ≡ ys ++ (b ∷ []) → (xs ≡ ys) × (a ≡ b)
 last_same [] [] a b e = (refl, cc)
 last_same [] (y ∷ ys) a b e = absurd (omega (arith, ap length e, length-append ys (b ∷ [])))
 last_same (x ∷ xs) [] a b e = absurd (omega (arith, ap length e, length-append xs (a ∷ [])))

@@ -1,13 +1,11 @@
 -- Pages of a map, and the blocks before and after them.
-use Rattle.std.proofs.Common.{◌≡◌, ℕ, zero, suc, ◌+◌, ◌*◌, ◌/◌, ◌%◌, ◌<◌, ◌≤◌, inl, inr, ⊎_elim, true, false, eqb, nat_eq, List, [], ◌∷◌, length, get_or, refl, sym, ap, ◌∙◌, subst, arith}
-use Rattle.std.specs.Prelude.{nat_lt}
+use Rattle.std.proofs.Common.{◌≡◌, ℕ, zero, suc, ◌+◌, ◌*◌, ◌/◌, ◌%◌, ◌<◌, inl, inr, ⊎_elim, true, false, eqb, List, [], ◌∷◌, length, get_or, refl, sym, ap, ◌∙◌, subst, arith}
 use Rattle.std.specs.List.{Contains, list_any}
 use Rattle.std.specs.List.Sorted.{IsStrictlyIncreasing}
-use Rattle.std.proofs.lemmas.Bool.{cases_Bool, cases_eq, both_ways, eq-eqb, ne_eqb, eqb-true, and_parts}
+use Rattle.std.proofs.lemmas.Bool.{cases_Bool, both_ways}
 use Rattle.std.proofs.lemmas.List.{get_or_default}
-use Rattle.std.proofs.lemmas.Bool.Decides.{nat_tests}
 use Rattle.std.proofs.lemmas.List.Elements.{recursion_from_All}
-use Rattle.vm_isa.specs.Blocks.{is_block, space_size}
+use Rattle.vm_isa.proofs.SpaceLaws.{block_low}
 use Rattle.air_core.specs.Orders.{Member}
 use Rattle.air_core.proofs.ElementLemmas.{all_at}
 use Rattle.offline_memory.specs.declared.page.Touched.{Touched}
@@ -73,29 +71,6 @@ not_in_pages : (pages : List Touched) (label space pointer : ℕ) → (Contains 
 not_in_pages pages label space pointer none is h =
     let same : h.page.label ≡ label = omega (arith, is, h.is_space, h.is_pointer, h.below) in
     none (subst (λ (n : ℕ). Contains (labels_of pages) n) same (contains_label pages h.page h.stands))
-
-size_small : (space : ℕ) → space_size space ≤ 536870912
-size_small space =
-    ⊎_elim
-    (λ (registers : space ≡ 1). rw (eq-eqb space 1 registers) (omega arith))
-    (λ (not_1 : space ≡ 1 → ⊥).
-    ⊎_elim
-    (λ (memory : space ≡ 2). rw (ne_eqb space 1 not_1, eq-eqb space 2 memory) (omega arith))
-    (λ (not_2 : space ≡ 2 → ⊥).
-    ⊎_elim
-    (λ (public : space ≡ 3). rw (ne_eqb space 1 not_1, ne_eqb space 2 not_2, eq-eqb space 3 public) (omega arith))
-    (λ (not_3 : space ≡ 3 → ⊥). rw (ne_eqb space 1 not_1, ne_eqb space 2 not_2, ne_eqb space 3 not_3) (omega arith))
-    (cases_eq space 3))
-    (cases_eq space 2))
-    (cases_eq space 1)
-
-below_from_test : (a b : ℕ) → nat_lt a b ≡ true → a < b
-below_from_test a b h = grind (arith, nat_tests)
-
-block_low : (space pointer : ℕ) → is_block space pointer ≡ true → (pointer % 4 ≡ 0) × (pointer < 536870912)
-block_low space pointer h =
-    let parts = and_parts (nat_eq (pointer % 4) 0) (nat_lt pointer (space_size space)) h in
-    (eqb-true (pointer % 4) 0 parts.0, omega (arith, below_from_test pointer (space_size space) parts.1, size_small space))
 
 pub pages_leave_new : PagesLeaveTheNewBlocks
 unfolding with_pages

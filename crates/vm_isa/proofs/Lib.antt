@@ -12,3 +12,4 @@ pub mod ReadsKept
 pub mod RowSteps
 pub mod Shapes
 pub mod ShaShape
+pub mod SpaceLaws
