@@ -76,7 +76,7 @@ no_refusal_done v found rejected same is other done = cc (sym other ∙ sym (ap 
 judged_done : (elf tables : List ℕ) (found : Answer) (j : IsJudged elf tables found) → IsBytes elf → Judges (nop_sheet 8) j.loaded tables j.verdict → status_of found ≡ status.Done → IsAccepted elf tables found
 judged_done elf tables found j bytes (accepted v file spelled accepts runs same) done = record {
   code = v.exit_code;
-  states = record { loaded = j.loaded; image = j.image.image; value = v; spelled = spelled; stated = refl; ends = runs elf bytes j.image.image };
+  states = record { loaded = j.loaded; image = j.image.image; value = v; file = file; spelled = spelled; accepts = accepts; stated = refl; ends = runs elf bytes j.image.image };
   is = j.is ∙ ap answer_of_verdict same;
 }
 judged_done elf tables found j bytes (no_file none same) done = absurd (no_refusal_done j.verdict found _ same j.is refl done)

@@ -110,14 +110,16 @@ CheckIsComplete = (old new : HostState) (result : Status) (elf tables elf_bytes 
     → Accepts (nop_sheet 8) (program_of loaded) loaded.entry v
     → IsAnswered old new result (answer.Accepted (acceptance_of v.exit_code))
 
--- The run that a table file states for an ELF file: the file spells its tables, and the manual's machine
--- ends over the image with the stated code after as many steps as there are valid rows, without hints,
--- and makes nothing public.
+-- The run that a table file states for an ELF file: the bytes spell a file of the form, whose claim is
+-- accepted, and the manual's machine ends over the image with the stated code after as many steps as there
+-- are valid rows, without hints, and makes nothing public.
 pub record StatesRun (elf tables : List ℕ) (code : ℕ) : Type 0 where
   pub loaded : Loaded
   pub image : HasImage elf loaded
   pub value : FileValue
+  pub file : IsFile (length (program_of loaded)) value
   pub spelled : tables ≡ spelling value
+  pub accepts : Accepts (nop_sheet 8) (program_of loaded) loaded.entry value
   pub stated : value.exit_code ≡ code
   pub ends : Ends loaded [] (valid_rows (nop_sheet 8) value.rows) code (replicate 64 0)
 

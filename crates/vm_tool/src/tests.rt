@@ -69,155 +69,156 @@ fn exit_line(alloc: Global, code: u8, digits: &str, steps: u64) -> Result<String
     format!(in alloc; "exit {code} public {digits:0<128} steps {steps}\n")
 }
 
+// words; hint file and limit; exit code, public digits before zeros, steps
+const RUNS_THAT_END: [(&[u32], &str, u8, &str, u64); 15] = [
+    (&PUBLIC_SEVEN, "hints 10", 0, "07", 2),
+    (&PUBLIC_SEVEN, "hints 2", 0, "07", 2),
+    // terminate 7, and 255
+    (&[0x0070_000B], "hints 0", 7, "", 0),
+    (&[0x0FF0_000B], "hints 1000000000", 255, "", 0),
+    // LUI x5, 0x80000; ADDI x5, x5, -1; reveal x5 at 4(x0)
+    (
+        &[0x8000_02B7, 0xFFF2_8293, 0x0042_A00B, 0x0000_000B],
+        "hints 3",
+        0,
+        "00000000ffffff7f",
+        3,
+    ),
+    // ADDI x0, x0, 5; ADDI x31, x0, -1; reveal x0 at 0(x0); reveal x31 at 12(x0)
+    (
+        &[
+            0x0050_0013,
+            0xFFF0_0F93,
+            0x0000_200B,
+            0x00CF_A00B,
+            0x0000_000B,
+        ],
+        "hints 4",
+        0,
+        "000000000000000000000000ffffffff",
+        4,
+    ),
+    // ADDI x5, x0, 64; ADDI x6, x0, 9; reveal x6 at -64(x5), twice
+    (
+        &[
+            0x0400_0293,
+            0x0090_0313,
+            0xFC03_228B,
+            0xFC03_228B,
+            0x0010_000B,
+        ],
+        "hints 99",
+        1,
+        "09",
+        4,
+    ),
+    // DIV and REM of 80000000 by FFFFFFFF, then by 0
+    (
+        &[
+            0x8000_02B7,
+            0xFFF0_0313,
+            0x0262_C3B3,
+            0x0262_E433,
+            0x0202_C4B3,
+            0x0202_E533,
+            0x0003_A00B,
+            0x0044_200B,
+            0x0084_A00B,
+            0x00C5_200B,
+            0x0000_000B,
+        ],
+        "hints 100",
+        0,
+        "0000008000000000ffffffff00000080",
+        10,
+    ),
+    // MULH, MULHSU and MULHU of FFFFFFFF by itself
+    (
+        &[
+            0xFFF0_0293,
+            0x0252_9333,
+            0x0252_A3B3,
+            0x0252_B433,
+            0x0003_200B,
+            0x0043_A00B,
+            0x0084_200B,
+            0x0000_000B,
+        ],
+        "hints 100",
+        0,
+        "00000000fffffffffeffffff",
+        7,
+    ),
+    // SRA by 31, SLL by 32
+    (
+        &[
+            0x8000_02B7,
+            0x01F0_0313,
+            0x4062_D3B3,
+            0x0200_0313,
+            0x0062_9433,
+            0x0003_A00B,
+            0x0044_200B,
+            0x0000_000B,
+        ],
+        "hints 100",
+        0,
+        "ffffffff00000080",
+        7,
+    ),
+    // LB at 1FFFFFFF; LW x0 at 0
+    (
+        &[0x2000_02B7, 0xFFF2_8303, 0x0000_000B],
+        "hints 9",
+        0,
+        "",
+        2,
+    ),
+    (&[0x0000_2003, 0x0000_000B], "hints 100", 0, "", 1),
+    // a store of 0 over the third word: the old instruction runs, and the load reads 0
+    (
+        &[
+            0x0000_12B7,
+            0x0002_A423,
+            0x0090_0313,
+            0x0082_A383,
+            0x0003_200B,
+            0x0043_A00B,
+            0x0000_000B,
+        ],
+        "hints 100",
+        0,
+        "09",
+        6,
+    ),
+    // two hint stores
+    (
+        &[0x0000_22B7, 0x0000_128B, 0x0040_128B, 0x0000_000B],
+        "twelve 100",
+        0,
+        "",
+        3,
+    ),
+    // a hint store, and the word that it stored
+    (
+        &[
+            0x0000_22B7,
+            0x0000_128B,
+            0x0002_A303,
+            0x0003_200B,
+            0x0000_000B,
+        ],
+        "four 100",
+        0,
+        "01020304",
+        4,
+    ),
+];
+
 #[test]
 fn runs_that_end(rt: HostRuntime) -> Result<(), Fail> {
     let alloc = rt.alloc();
-    // words; hint file and limit; exit code, public digits before zeros, steps
-    let rows: [(&[u32], &str, u8, &str, u64); 15] = [
-        (&PUBLIC_SEVEN, "hints 10", 0, "07", 2),
-        (&PUBLIC_SEVEN, "hints 2", 0, "07", 2),
-        // terminate 7, and 255
-        (&[0x0070_000B], "hints 0", 7, "", 0),
-        (&[0x0FF0_000B], "hints 1000000000", 255, "", 0),
-        // LUI x5, 0x80000; ADDI x5, x5, -1; reveal x5 at 4(x0)
-        (
-            &[0x8000_02B7, 0xFFF2_8293, 0x0042_A00B, 0x0000_000B],
-            "hints 3",
-            0,
-            "00000000ffffff7f",
-            3,
-        ),
-        // ADDI x0, x0, 5; ADDI x31, x0, -1; reveal x0 at 0(x0); reveal x31 at 12(x0)
-        (
-            &[
-                0x0050_0013,
-                0xFFF0_0F93,
-                0x0000_200B,
-                0x00CF_A00B,
-                0x0000_000B,
-            ],
-            "hints 4",
-            0,
-            "000000000000000000000000ffffffff",
-            4,
-        ),
-        // ADDI x5, x0, 64; ADDI x6, x0, 9; reveal x6 at -64(x5), twice
-        (
-            &[
-                0x0400_0293,
-                0x0090_0313,
-                0xFC03_228B,
-                0xFC03_228B,
-                0x0010_000B,
-            ],
-            "hints 99",
-            1,
-            "09",
-            4,
-        ),
-        // DIV and REM of 80000000 by FFFFFFFF, then by 0
-        (
-            &[
-                0x8000_02B7,
-                0xFFF0_0313,
-                0x0262_C3B3,
-                0x0262_E433,
-                0x0202_C4B3,
-                0x0202_E533,
-                0x0003_A00B,
-                0x0044_200B,
-                0x0084_A00B,
-                0x00C5_200B,
-                0x0000_000B,
-            ],
-            "hints 100",
-            0,
-            "0000008000000000ffffffff00000080",
-            10,
-        ),
-        // MULH, MULHSU and MULHU of FFFFFFFF by itself
-        (
-            &[
-                0xFFF0_0293,
-                0x0252_9333,
-                0x0252_A3B3,
-                0x0252_B433,
-                0x0003_200B,
-                0x0043_A00B,
-                0x0084_200B,
-                0x0000_000B,
-            ],
-            "hints 100",
-            0,
-            "00000000fffffffffeffffff",
-            7,
-        ),
-        // SRA by 31, SLL by 32
-        (
-            &[
-                0x8000_02B7,
-                0x01F0_0313,
-                0x4062_D3B3,
-                0x0200_0313,
-                0x0062_9433,
-                0x0003_A00B,
-                0x0044_200B,
-                0x0000_000B,
-            ],
-            "hints 100",
-            0,
-            "ffffffff00000080",
-            7,
-        ),
-        // LB at 1FFFFFFF; LW x0 at 0
-        (
-            &[0x2000_02B7, 0xFFF2_8303, 0x0000_000B],
-            "hints 9",
-            0,
-            "",
-            2,
-        ),
-        (&[0x0000_2003, 0x0000_000B], "hints 100", 0, "", 1),
-        // a store of 0 over the third word: the old instruction runs, and the load reads 0
-        (
-            &[
-                0x0000_12B7,
-                0x0002_A423,
-                0x0090_0313,
-                0x0082_A383,
-                0x0003_200B,
-                0x0043_A00B,
-                0x0000_000B,
-            ],
-            "hints 100",
-            0,
-            "09",
-            6,
-        ),
-        // two hint stores
-        (
-            &[0x0000_22B7, 0x0000_128B, 0x0040_128B, 0x0000_000B],
-            "twelve 100",
-            0,
-            "",
-            3,
-        ),
-        // a hint store, and the word that it stored
-        (
-            &[
-                0x0000_22B7,
-                0x0000_128B,
-                0x0002_A303,
-                0x0003_200B,
-                0x0000_000B,
-            ],
-            "four 100",
-            0,
-            "01020304",
-            4,
-        ),
-    ];
-    for (words, rest, code, digits, steps) in rows {
+    for (words, rest, code, digits, steps) in RUNS_THAT_END {
         let line = format!(in alloc; "run elf {rest}")?;
         let text = exit_line(alloc, code, digits, steps)?;
         says(&rt, elf_of(alloc, words)?, &line, Status::Done, &text)?;
@@ -225,169 +226,170 @@ fn runs_that_end(rt: HostRuntime) -> Result<(), Fail> {
     Ok(())
 }
 
+const RUNS_THAT_STOP: [(&[u32], &str, Status, &str); 26] = [
+    (&PUBLIC_SEVEN, "hints 1", Status::Limit, "limit steps 1"),
+    (&PUBLIC_SEVEN, "hints 0", Status::Limit, "limit steps 0"),
+    // a jump to itself
+    (
+        &[0x0000_006F],
+        "hints 100",
+        Status::Limit,
+        "limit steps 100",
+    ),
+    (
+        &[0xFFFF_FFFF],
+        "hints 1",
+        Status::Trapped,
+        "trap undecoded at 00001000",
+    ),
+    (
+        &[0xFFFF_FFFF],
+        "hints 0",
+        Status::Trapped,
+        "trap undecoded at 00001000",
+    ),
+    // a word that compilers write for a trap
+    (
+        &[0xC000_1073],
+        "hints 9",
+        Status::Trapped,
+        "trap undecoded at 00001000",
+    ),
+    // a step beyond the text, and a jump
+    (
+        &[0x0070_0293],
+        "hints 9",
+        Status::Trapped,
+        "trap not-text at 00001004",
+    ),
+    (
+        &[0x0080_006F, 0x0000_000B],
+        "hints 9",
+        Status::Trapped,
+        "trap not-text at 00001008",
+    ),
+    // JALR to 1002, JAL by 2, and a branch by 2 that is taken
+    (
+        &[0x0000_12B7, 0x0022_8067],
+        "hints 9",
+        Status::Trapped,
+        "trap misaligned-target at 00001004",
+    ),
+    (
+        &[0x0020_006F],
+        "hints 9",
+        Status::Trapped,
+        "trap misaligned-target at 00001000",
+    ),
+    (
+        &[0x0000_0163],
+        "hints 9",
+        Status::Trapped,
+        "trap misaligned-target at 00001000",
+    ),
+    // LW at 1, LH at 1FFFFFFF, LW and SW at 20000000
+    (
+        &[0x0010_2003, 0x0000_000B],
+        "hints 9",
+        Status::Trapped,
+        "trap misaligned at 00001000",
+    ),
+    (
+        &[0x2000_02B7, 0xFFF2_9303],
+        "hints 9",
+        Status::Trapped,
+        "trap misaligned at 00001004",
+    ),
+    (
+        &[0x2000_02B7, 0x0002_A303],
+        "hints 9",
+        Status::Trapped,
+        "trap out-of-range at 00001004",
+    ),
+    (
+        &[0x2000_02B7, 0x0002_A023],
+        "hints 9",
+        Status::Trapped,
+        "trap out-of-range at 00001004",
+    ),
+    // LW at 20000001, which is both
+    (
+        &[0x2000_02B7, 0x0012_A303],
+        "hints 9",
+        Status::Trapped,
+        "trap misaligned at 00001004",
+    ),
+    // the second of two hint stores with four bytes
+    (
+        &[0x0000_22B7, 0x0000_128B, 0x0040_128B, 0x0000_000B],
+        "four 9",
+        Status::Trapped,
+        "trap hints-end at 00001008",
+    ),
+    // a hint store without hints at 1, and at 20000000
+    (
+        &[0x0010_100B],
+        "hints 9",
+        Status::Trapped,
+        "trap misaligned at 00001000",
+    ),
+    (
+        &[0x2000_02B7, 0x0000_128B],
+        "hints 9",
+        Status::Trapped,
+        "trap out-of-range at 00001004",
+    ),
+    // reveals of x5 at 64(x0), at 2(x0) and at -4(x0)
+    (
+        &[0x0402_A00B],
+        "hints 9",
+        Status::Trapped,
+        "trap public-index at 00001000",
+    ),
+    (
+        &[0x0022_A00B],
+        "hints 9",
+        Status::Trapped,
+        "trap public-index at 00001000",
+    ),
+    (
+        &[0xFFC2_A00B],
+        "hints 9",
+        Status::Trapped,
+        "trap public-index at 00001000",
+    ),
+    // ADDI x5, x0, 2 and a SHA block: a state at 2; a block at 2 with a state at 20000000
+    (
+        &[0x0020_0293, 0x0200_428B],
+        "hints 9",
+        Status::Trapped,
+        "trap misaligned at 00001004",
+    ),
+    (
+        &[0x0020_0293, 0x2000_0337, 0x0202_C30B],
+        "hints 9",
+        Status::Trapped,
+        "trap misaligned at 00001008",
+    ),
+    // a state at 1FFFFFE4, and a block at 1FFFFFC4
+    (
+        &[0x2000_02B7, 0xFE42_8293, 0x0200_428B],
+        "hints 9",
+        Status::Trapped,
+        "trap out-of-range at 00001008",
+    ),
+    (
+        &[0x2000_02B7, 0xFC42_8293, 0x0202_C00B],
+        "hints 9",
+        Status::Trapped,
+        "trap out-of-range at 00001008",
+    ),
+];
+
 #[test]
 fn runs_that_stop(rt: HostRuntime) -> Result<(), Fail> {
     let alloc = rt.alloc();
-    let rows: [(&[u32], &str, Status, &str); 26] = [
-        (&PUBLIC_SEVEN, "hints 1", Status::Limit, "limit steps 1"),
-        (&PUBLIC_SEVEN, "hints 0", Status::Limit, "limit steps 0"),
-        // a jump to itself
-        (
-            &[0x0000_006F],
-            "hints 100",
-            Status::Limit,
-            "limit steps 100",
-        ),
-        (
-            &[0xFFFF_FFFF],
-            "hints 1",
-            Status::Trapped,
-            "trap undecoded at 00001000",
-        ),
-        (
-            &[0xFFFF_FFFF],
-            "hints 0",
-            Status::Trapped,
-            "trap undecoded at 00001000",
-        ),
-        // a word that compilers write for a trap
-        (
-            &[0xC000_1073],
-            "hints 9",
-            Status::Trapped,
-            "trap undecoded at 00001000",
-        ),
-        // a step beyond the text, and a jump
-        (
-            &[0x0070_0293],
-            "hints 9",
-            Status::Trapped,
-            "trap not-text at 00001004",
-        ),
-        (
-            &[0x0080_006F, 0x0000_000B],
-            "hints 9",
-            Status::Trapped,
-            "trap not-text at 00001008",
-        ),
-        // JALR to 1002, JAL by 2, and a branch by 2 that is taken
-        (
-            &[0x0000_12B7, 0x0022_8067],
-            "hints 9",
-            Status::Trapped,
-            "trap misaligned-target at 00001004",
-        ),
-        (
-            &[0x0020_006F],
-            "hints 9",
-            Status::Trapped,
-            "trap misaligned-target at 00001000",
-        ),
-        (
-            &[0x0000_0163],
-            "hints 9",
-            Status::Trapped,
-            "trap misaligned-target at 00001000",
-        ),
-        // LW at 1, LH at 1FFFFFFF, LW and SW at 20000000
-        (
-            &[0x0010_2003, 0x0000_000B],
-            "hints 9",
-            Status::Trapped,
-            "trap misaligned at 00001000",
-        ),
-        (
-            &[0x2000_02B7, 0xFFF2_9303],
-            "hints 9",
-            Status::Trapped,
-            "trap misaligned at 00001004",
-        ),
-        (
-            &[0x2000_02B7, 0x0002_A303],
-            "hints 9",
-            Status::Trapped,
-            "trap out-of-range at 00001004",
-        ),
-        (
-            &[0x2000_02B7, 0x0002_A023],
-            "hints 9",
-            Status::Trapped,
-            "trap out-of-range at 00001004",
-        ),
-        // LW at 20000001, which is both
-        (
-            &[0x2000_02B7, 0x0012_A303],
-            "hints 9",
-            Status::Trapped,
-            "trap misaligned at 00001004",
-        ),
-        // the second of two hint stores with four bytes
-        (
-            &[0x0000_22B7, 0x0000_128B, 0x0040_128B, 0x0000_000B],
-            "four 9",
-            Status::Trapped,
-            "trap hints-end at 00001008",
-        ),
-        // a hint store without hints at 1, and at 20000000
-        (
-            &[0x0010_100B],
-            "hints 9",
-            Status::Trapped,
-            "trap misaligned at 00001000",
-        ),
-        (
-            &[0x2000_02B7, 0x0000_128B],
-            "hints 9",
-            Status::Trapped,
-            "trap out-of-range at 00001004",
-        ),
-        // reveals of x5 at 64(x0), at 2(x0) and at -4(x0)
-        (
-            &[0x0402_A00B],
-            "hints 9",
-            Status::Trapped,
-            "trap public-index at 00001000",
-        ),
-        (
-            &[0x0022_A00B],
-            "hints 9",
-            Status::Trapped,
-            "trap public-index at 00001000",
-        ),
-        (
-            &[0xFFC2_A00B],
-            "hints 9",
-            Status::Trapped,
-            "trap public-index at 00001000",
-        ),
-        // ADDI x5, x0, 2 and a SHA block: a state at 2; a block at 2 with a state at 20000000
-        (
-            &[0x0020_0293, 0x0200_428B],
-            "hints 9",
-            Status::Trapped,
-            "trap misaligned at 00001004",
-        ),
-        (
-            &[0x0020_0293, 0x2000_0337, 0x0202_C30B],
-            "hints 9",
-            Status::Trapped,
-            "trap misaligned at 00001008",
-        ),
-        // a state at 1FFFFFE4, and a block at 1FFFFFC4
-        (
-            &[0x2000_02B7, 0xFE42_8293, 0x0200_428B],
-            "hints 9",
-            Status::Trapped,
-            "trap out-of-range at 00001008",
-        ),
-        (
-            &[0x2000_02B7, 0xFC42_8293, 0x0202_C00B],
-            "hints 9",
-            Status::Trapped,
-            "trap out-of-range at 00001008",
-        ),
-    ];
-    for (words, rest, status, text) in rows {
+    for (words, rest, status, text) in RUNS_THAT_STOP {
         let line = format!(in alloc; "run elf {rest}")?;
         let text = format!(in alloc; "{text}\n")?;
         says(&rt, elf_of(alloc, words)?, &line, status, &text)?;
@@ -438,31 +440,32 @@ fn changed(alloc: Global, place: usize, byte: u8) -> Result<Vec<u8>, AllocError>
     Ok(file)
 }
 
+// a byte of the file, what it becomes, and the refusal
+const REFUSED_BYTES: [(usize, u8, &str); 12] = [
+    (0, 0, "magic"),
+    (4, 2, "class"),
+    (5, 2, "order"),
+    (16, 3, "file-type"),
+    (18, 62, "machine"),
+    (36, 1, "compressed"),
+    (42, 31, "header-size"),
+    // 257 headers
+    (45, 1, "header-table"),
+    // 13 bytes in the file, 12 in memory
+    (68, 13, "segment-size"),
+    // one byte further on
+    (56, 85, "truncated"),
+    // at 0xFF001000
+    (63, 0xFF, "range"),
+    // at 100C, behind the text
+    (24, 0x0C, "entry"),
+];
+
 #[test]
 fn refused_files(rt: HostRuntime) -> Result<(), Fail> {
     let alloc = rt.alloc();
     let line = "run elf hints 10";
-    // a byte of the file, what it becomes, and the refusal
-    let rows = [
-        (0, 0, "magic"),
-        (4, 2, "class"),
-        (5, 2, "order"),
-        (16, 3, "file-type"),
-        (18, 62, "machine"),
-        (36, 1, "compressed"),
-        (42, 31, "header-size"),
-        // 257 headers
-        (45, 1, "header-table"),
-        // 13 bytes in the file, 12 in memory
-        (68, 13, "segment-size"),
-        // one byte further on
-        (56, 85, "truncated"),
-        // at 0xFF001000
-        (63, 0xFF, "range"),
-        // at 100C, behind the text
-        (24, 0x0C, "entry"),
-    ];
-    for (place, byte, refusal) in rows {
+    for (place, byte, refusal) in REFUSED_BYTES {
         let text = format!(in alloc; "elf {refusal}\n")?;
         says(
             &rt,
@@ -622,7 +625,12 @@ fn machine_by_steps(rt: HostRuntime) -> Result<(), Fail> {
     assert_eq!(rt; state.byte(0x1000), 0x93);
     assert_eq!(rt; state.public()[0], 7);
     assert_eq!(rt; state.hints_left(), [5, 6].as_slice());
+    Ok(())
+}
 
+#[test]
+fn broken_programs(rt: HostRuntime) -> Result<(), Fail> {
+    let alloc = rt.alloc();
     let trap = Trap {
         cause: Cause::Undecoded,
         pc: 0x1000,

@@ -33,6 +33,7 @@ impl Program {
         Program { rows }
     }
 
+    /// How many rows there are: fewer than text words, where some are no instructions.
     pub fn len(&self) -> u32
         ensures { result ≡ length self.now }
     {
@@ -45,21 +46,21 @@ impl Program {
         self.rows.is_empty()
     }
 
-    /// The row at a place.
+    /// The row at a place, by which a table file names it.
     pub fn at(&self, place: u32) -> Option<VmInstr>
         ensures { result ≡ slice_get self.now place }
     {
         self.rows.get(place as usize).copied()
     }
 
-    /// The row with this pc.
+    /// The row with this pc, found by halving.
     pub fn lookup(&self, pc: u32) -> Option<VmInstr>
         ensures { result ≡ find (λ row. row.pc == pc) self.now }
     {
         self.at(self.place(pc)?)
     }
 
-    /// The place of the row with this pc.
+    /// The place of the row with this pc, found by halving.
     pub fn place(&self, pc: u32) -> Option<u32>
         ensures { result ≡ position (λ row. row.pc == pc) self.now }
     {

@@ -310,6 +310,41 @@ fn agree_in_memory<R: Abort>(rt: &R, state: &State, blocks: &BlockMachine, numbe
     }
 }
 
+/// Goes by both machines until they stop, and compares them after each step.
+fn stop_of<R: Abort + AllocGlobal>(
+    rt: &R,
+    state: &mut State,
+    blocks: &mut BlockMachine,
+    number: usize,
+) -> Result<Option<Stop>, Fail> {
+    for _ in 0..1000 {
+        let stepped = state.step()?;
+        let row = blocks.program.lookup(blocks.pc);
+        let went = blocks.step(rt.alloc())?;
+        let is_stuck = !went || blocks.program.lookup(blocks.pc).is_none();
+        match stepped {
+            Stepped::Went if blocks.image.word_at(state.pc()).is_some() => {
+                assert!(rt; went, "program {number}");
+                agree(rt, state, blocks, number);
+            }
+            // no text stands at the next pc
+            Stepped::Went => assert!(rt; is_stuck, "program {number}"),
+            Stepped::Ended(code) => {
+                let end = row.map(|row| (row.op, row.imm[0]));
+                assert_eq!(rt; end, Some((opcode::TERMINATE, code)), "program {number}");
+                assert!(rt; !went, "program {number}");
+                agree_in_memory(rt, state, blocks, number);
+                return Ok(Some(Stop::Ends(code)));
+            }
+            Stepped::Trapped(trap) => {
+                assert!(rt; is_stuck, "program {number}");
+                return Ok(Some(Stop::Traps(trap.cause)));
+            }
+        }
+    }
+    Ok(None)
+}
+
 #[test]
 fn machines_side_by_side(rt: HostRuntime) -> Result<(), Fail> {
     let alloc = rt.alloc();
@@ -329,41 +364,7 @@ fn machines_side_by_side(rt: HostRuntime) -> Result<(), Fail> {
             written: Vec::new(alloc),
             hints: given,
         };
-        let mut stopped = None;
-        for _ in 0..1000 {
-            let stepped = state.step()?;
-            let row = program.lookup(blocks.pc);
-            let went = blocks.step(alloc)?;
-            match stepped {
-                Stepped::Went if image.word_at(state.pc()).is_some() => {
-                    assert!(rt; went, "program {number}");
-                    agree(&rt, &state, &blocks, number);
-                    continue;
-                }
-                Stepped::Went => {}
-                Stepped::Ended(code) => {
-                    stopped = Some(Stop::Ends(code));
-                    let end = row.map(|row| (row.op, row.imm[0]));
-                    assert_eq!(rt; end, Some((opcode::TERMINATE, code)), "program {number}");
-                    assert!(rt; !went, "program {number}");
-                    agree_in_memory(&rt, &state, &blocks, number);
-                    break;
-                }
-                Stepped::Trapped(trap) => {
-                    stopped = Some(Stop::Traps(trap.cause));
-                    assert!(rt;
-                        !went || program.lookup(blocks.pc).is_none(),
-                        "program {number}"
-                    );
-                    break;
-                }
-            }
-            // no text stands at the next pc
-            assert!(rt;
-                !went || program.lookup(blocks.pc).is_none(),
-                "program {number}"
-            );
-        }
+        let stopped = stop_of(&rt, &mut state, &mut blocks, number)?;
         assert_eq!(rt; stopped, Some(*stop), "program {number}");
     }
     Ok(())

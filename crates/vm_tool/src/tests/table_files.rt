@@ -23,13 +23,29 @@ const LONG: [u8; 50] =
 // ADDI x0, x0, 5; LUI x0, 0x1F; FENCE; terminate 3
 const THREE_STEPS: [u32; 4] = [0x0050_0013, 0x0001_F037, 0x0FF0_000F, 0x0030_000B];
 
+// the ends, the rows and the entries of its file
+const ENDS: [u32; 3] = [4096, 4108, 4];
+
+const ROWS: [[u16; 3]; 4] = [[4096, 1, 1], [4100, 2, 1], [4104, 3, 1], [0, 0, 0]];
+
+const ENTRIES: [(u32, u32); 3] = [(0, 1), (1, 1), (2, 1)];
+
 const PRIME: u64 = 2_013_265_921;
 
-const ACCEPTED: &str = "accepted exit ";
+/// A status and the line that is said with it.
+type Answer<'a> = (Status, &'a str);
 
-const NO_FILE: &str = "rejected file\n";
+const ACCEPTED_0: Answer<'static> = (
+    Status::Done,
+    "accepted exit 0 public \
+     0000000000000000000000000000000000000000000000000000000000000000\
+     0000000000000000000000000000000000000000000000000000000000000000 \
+     segments 1 hint-bytes 0\n",
+);
 
-const NO_CLAIM: &str = "rejected claim\n";
+const NO_FILE: Answer<'static> = (Status::Rejected, "rejected file\n");
+
+const NO_CLAIM: Answer<'static> = (Status::Rejected, "rejected claim\n");
 
 fn checked<R: Abort + AllocGlobal>(
     rt: &R,
@@ -50,22 +66,27 @@ fn says<R: Abort + AllocGlobal>(
     rt: &R,
     words: &[u32],
     tables: &[u8],
-    text: &str,
+    answer: Answer,
 ) -> Result<(), Fail> {
+    let (wanted, text) = answer;
     let (status, host) = checked(rt, words, tables, &[])?;
-    let wanted = if text.starts_with(ACCEPTED) {
-        Status::Done
-    } else {
-        Status::Rejected
-    };
     assert_eq!(rt; status, wanted, "{text}");
     assert_eq!(rt; host.said(), text.as_bytes(), "{text}");
     Ok(())
 }
 
-fn accepted_line(alloc: Global, code: u8) -> Result<String, AllocError> {
+// The file is accepted, with this exit code.
+fn accepts<R: Abort + AllocGlobal>(
+    rt: &R,
+    words: &[u32],
+    tables: &[u8],
+    code: u8,
+) -> Result<(), Fail> {
     let none = "";
-    format!(in alloc; "{ACCEPTED}{code} public {none:0<128} segments 1 hint-bytes 0\n")
+    let line = format!(in rt.alloc();
+        "accepted exit {code} public {none:0<128} segments 1 hint-bytes 0\n"
+    )?;
+    says(rt, words, tables, (Status::Done, &line))
 }
 
 // The file of these rows, each a pc, a time and a flag, and these entries.
@@ -108,48 +129,50 @@ fn file_of(
 #[test]
 fn stored_runs(rt: HostRuntime) -> Result<(), Fail> {
     let alloc = rt.alloc();
-    says(&rt, &EXIT_SEVEN, &SHORT, &accepted_line(alloc, 7)?)?;
-    says(&rt, &ONE_STEP, &LONG, &accepted_line(alloc, 0)?)?;
+    accepts(&rt, &EXIT_SEVEN, &SHORT, 7)?;
+    says(&rt, &ONE_STEP, &LONG, ACCEPTED_0)?;
+    // another end's time
+    let mut late = LONG;
+    late[20] = 3;
+    says(&rt, &ONE_STEP, &late, NO_CLAIM)?;
     says(&rt, &ONE_STEP, &LONG[..49], NO_FILE)?;
     let mut more = LONG.as_slice().to_vec(alloc)?;
     more.push(0)?;
     says(&rt, &ONE_STEP, &more, NO_FILE)?;
-
-    let rows = [[4096, 1, 1], [4100, 2, 1], [4104, 3, 1], [0, 0, 0]];
-    let exchanged = [[4104, 3, 1], [0, 0, 0], [4096, 1, 1], [4100, 2, 1]];
-    let entries = [(0, 1), (1, 1), (2, 1)];
-    let ends = [4096, 4108, 4];
-    let good = file_of(alloc, ends, 3, &rows, &entries, 3)?;
-    says(&rt, &THREE_STEPS, &good, &accepted_line(alloc, 3)?)?;
-    let other_order = file_of(alloc, ends, 3, &exchanged, &entries, 3)?;
-    says(&rt, &THREE_STEPS, &other_order, &accepted_line(alloc, 3)?)?;
-
-    // another end's time, another code, an end that is no terminate, a start that is not the entry
-    let late = file_of(alloc, [4096, 4108, 5], 3, &rows, &entries, 3)?;
-    says(&rt, &THREE_STEPS, &late, NO_CLAIM)?;
-    let other_code = file_of(alloc, ends, 3, &rows, &entries, 4)?;
-    says(&rt, &THREE_STEPS, &other_code, NO_CLAIM)?;
-    let two = [[4096, 1, 1], [4100, 2, 1]];
-    let short = file_of(alloc, [4096, 4104, 3], 2, &two, &entries[..2], 3)?;
-    says(&rt, &THREE_STEPS, &short, NO_CLAIM)?;
-    let last = [[4100, 1, 1], [4104, 2, 1]];
-    let later = file_of(alloc, [4100, 4108, 3], 2, &last, &[(1, 1), (2, 1)], 3)?;
-    says(&rt, &THREE_STEPS, &later, NO_CLAIM)?;
-    // no rows
-    let none = file_of(alloc, [4096, 4108, 1], 0, &[], &[], 3)?;
-    says(&rt, &THREE_STEPS, &none, NO_CLAIM)?;
-    // a row that doesn't hold and says nothing, and one that isn't counted
-    let broken = [[4096, 1, 1], [4100, 2, 1], [4104, 3, 1], [0, 0, 2]];
-    let unheld = file_of(alloc, ends, 3, &broken, &entries, 3)?;
-    says(&rt, &THREE_STEPS, &unheld, NO_CLAIM)?;
-    let uncounted = file_of(alloc, ends, 3, &rows, &entries[..2], 3)?;
-    says(&rt, &THREE_STEPS, &uncounted, NO_CLAIM)?;
-    // a circle of rows beside the path
-    let circle = [[4096, 1, 1], [4100, 2, 1], [4104, 3, 1], [4104, 3, 1]];
-    let twice = file_of(alloc, ends, 3, &circle, &[(0, 1), (1, 1), (2, 2)], 3)?;
-    says(&rt, &THREE_STEPS, &twice, NO_CLAIM)?;
     // a pc at which no row of the program stands
-    says(&rt, &[0xFFFF_FFFF, 0x0000_000B], &LONG, NO_CLAIM)
+    says(&rt, &[0xFFFF_FFFF, 0x0000_000B], &LONG, NO_CLAIM)?;
+
+    let exchanged = [ROWS[2], ROWS[3], ROWS[0], ROWS[1]];
+    let good = file_of(alloc, ENDS, 3, &ROWS, &ENTRIES, 3)?;
+    accepts(&rt, &THREE_STEPS, &good, 3)?;
+    let other_order = file_of(alloc, ENDS, 3, &exchanged, &ENTRIES, 3)?;
+    accepts(&rt, &THREE_STEPS, &other_order, 3)
+}
+
+#[test]
+fn untrue_claims(rt: HostRuntime) -> Result<(), Fail> {
+    let alloc = rt.alloc();
+    let broken = [ROWS[0], ROWS[1], ROWS[2], [0, 0, 2]];
+    let circle = [ROWS[0], ROWS[1], ROWS[2], ROWS[2]];
+    let early = [[4100, 1, 1], [4104, 2, 1]];
+    let files = [
+        // another end's time, another code, an end that is no terminate, a start that is not the entry
+        file_of(alloc, [4096, 4108, 5], 3, &ROWS, &ENTRIES, 3)?,
+        file_of(alloc, ENDS, 3, &ROWS, &ENTRIES, 4)?,
+        file_of(alloc, [4096, 4104, 3], 2, &ROWS[..2], &ENTRIES[..2], 3)?,
+        file_of(alloc, [4100, 4108, 3], 2, &early, &ENTRIES[1..], 3)?,
+        // no rows
+        file_of(alloc, [4096, 4108, 1], 0, &[], &[], 3)?,
+        // a row that doesn't hold and says nothing, and one that isn't counted
+        file_of(alloc, ENDS, 3, &broken, &ENTRIES, 3)?,
+        file_of(alloc, ENDS, 3, &ROWS, &ENTRIES[..2], 3)?,
+        // a circle of rows beside the path
+        file_of(alloc, ENDS, 3, &circle, &[(0, 1), (1, 1), (2, 2)], 3)?,
+    ];
+    for file in &files {
+        says(&rt, &THREE_STEPS, file, NO_CLAIM)?;
+    }
+    Ok(())
 }
 
 // ---- the plain program, of the program of one step
@@ -194,8 +217,8 @@ fn is_right(row: &[u8]) -> bool {
     number(row, 8) == 0 || (number(row, 8) == 1 && one_step)
 }
 
-// What the bytes are: a true claim, one that isn't, or no file.
-fn plain_answer(bytes: &[u8]) -> &'static str {
+// The answer to the bytes: they are a true claim, one that isn't, or no file.
+fn plain_answer(bytes: &[u8]) -> Answer<'static> {
     let Some((rows, behind)) = parts(bytes) else {
         return NO_FILE;
     };
@@ -205,7 +228,7 @@ fn plain_answer(bytes: &[u8]) -> &'static str {
     let path = [number(bytes, 12), number(bytes, 16), number(bytes, 20)] == [4096, 4100, 2];
     let used = [number(behind, 0), number(behind, 4), number(behind, 8)] == [1, 0, 1];
     if right && valid == 1 && path && used && bytes.last() == Some(&0) {
-        ACCEPTED
+        ACCEPTED_0
     } else {
         NO_CLAIM
     }
@@ -213,8 +236,9 @@ fn plain_answer(bytes: &[u8]) -> &'static str {
 
 // Whether `check` answers as the plain program does.
 fn agrees<R: Abort + AllocGlobal>(rt: &R, bytes: &[u8]) -> Result<bool, Fail> {
-    let (_, host) = checked(rt, &ONE_STEP, bytes, &[])?;
-    Ok(host.said().starts_with(plain_answer(bytes).as_bytes()))
+    let (status, host) = checked(rt, &ONE_STEP, bytes, &[])?;
+    let (wanted, text) = plain_answer(bytes);
+    Ok(status == wanted && host.said() == text.as_bytes())
 }
 
 #[test]
