@@ -1,13 +1,12 @@
 -- Records of steps of both operand forms are ones that the table's rows are filled from.
-use Rattle.std.proofs.Common.{◌≡◌, ℕ, ◌+◌, ◌*◌, ◌^◌, ◌<◌, ◌≤◌, Bool, true, false, if◌then◌else◌, nat_le, List, [], ◌∷◌, map, refl, sym, ap, subst, ◌∙◌, arith, lit<}
+use Rattle.std.proofs.Common.{◌≡◌, ℕ, ◌+◌, ◌*◌, ◌^◌, ◌<◌, ◌≤◌, Bool, true, false, if◌then◌else◌, nat_le, List, [], ◌∷◌, map, refl, arith, lit<}
 use Rattle.std.proofs.lemmas.Bool.{and_parts, leb-true}
 use Rattle.std.proofs.lemmas.Bool.Decides.{nat_tests}
-use Rattle.vm_word.specs.Word.{limbs_of, word_of_limbs}
+use Rattle.vm_word.specs.Word.{limbs_of}
 use Rattle.vm_word.specs.Arithmetic.{word_sum}
 use Rattle.vm_word.proofs.WordLemmas.{word_of_limbs-limbs_of}
 use Rattle.vm_isa.specs.declared.instr.VmInstr.{VmInstr}
 use Rattle.vm_isa.specs.declared.access.TimedAccess.{TimedAccess}
-use Rattle.vm_isa.specs.declared.record.StepRecord.{StepRecord}
 use Rattle.vm_isa.specs.Words.{IsWord}
 use Rattle.vm_isa.specs.Opcodes.{is_from, is_alu, is_mul}
 use Rattle.vm_isa.specs.Slots.{slots_of}
@@ -15,8 +14,8 @@ use Rattle.vm_isa.specs.Instr.{InRange}
 use Rattle.vm_isa.specs.Results.{alu}
 use Rattle.vm_isa.specs.Means.{Fillable, Placed, placed_at}
 use Rattle.gadget_limbs.proofs.LimbsLaws.{limbs_word}
-use Rattle.adapter_regs.specs.Laws.{is_register, result}
-use Rattle.adapter_regs.proofs.Opcodes.{Apart, apart, three_slots}
+use Rattle.adapter_regs.specs.Laws.{result}
+use Rattle.adapter_regs.proofs.Opcodes.{apart, three_slots}
 use Rattle.adapter_regs.proofs.Meaning.{by_word, by_imm, means_word, means_imm, reads, writes, result_word}
 use Rattle.chip_alu.specs.AluSound.{owned_register}
 

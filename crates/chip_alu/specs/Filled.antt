@@ -1,5 +1,5 @@
 -- What the columns of a step show of the table's own part, operation by operation.
-use Rattle.std.specs.Prelude.{◌≡◌, ◌≢◌, ℕ, ◌+◌, ◌*◌, ◌^◌, ◌<◌, ◌≤◌, true, nat_eq, nat_le, List, [], ◌∷◌, bit_xor, bit_or, bit_and, refl}
+use Rattle.std.specs.Prelude.{◌≡◌, ◌≢◌, ℕ, ◌^◌, ◌<◌, ◌≤◌, true, nat_eq, nat_le, List, [], ◌∷◌, bit_xor, bit_or, bit_and, refl}
 use Rattle.std.specs.List.{AllByRecursion}
 use Rattle.std.proofs.Common.{sym, ap, subst, ◌∙◌, ⊎_elim, arith, lit≤}
 use Rattle.std.proofs.lemmas.Bool.{cases_eq, and_parts, leb-true}

@@ -1,7 +1,7 @@
 -- What the flag and the lookups of a valid row say of its result: that it is its operation's.
-use Rattle.std.specs.Prelude.{◌≡◌, ◌≢◌, ℕ, ◌+◌, ◌*◌, ◌^◌, ◌<◌, [], ◌∷◌, bit_xor, bit_or, bit_and, refl}
+use Rattle.std.specs.Prelude.{◌≡◌, ◌≢◌, ℕ, ◌^◌, ◌<◌, [], ◌∷◌, bit_xor, bit_or, bit_and, refl}
 use Rattle.std.specs.List.{AllByRecursion}
-use Rattle.std.proofs.Common.{sym, ap, subst, ◌∙◌, arith, lit≤}
+use Rattle.std.proofs.Common.{sym, subst, ◌∙◌, arith, lit≤}
 use Rattle.std.proofs.lemmas.Nat.{xor_of_8, or_of_8, and_le_l}
 use Rattle.vm_field.specs.Field.{modulus, field_add, field_mul}
 use Rattle.vm_word.specs.Word.{word_of_limbs}

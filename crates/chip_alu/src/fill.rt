@@ -39,49 +39,15 @@ fn write(columns: &AluRow, row: &mut [Fe])
     requires { length row.old ≡ 40 }
     ensures { row.new ≡ row_of_alu columns.now }
 {
-    let c = *columns;
-    let r = c.regs;
+    let f = *columns;
+    let r = f.regs;
+    let (i, b, c, o, a) = (r.imm, r.left, r.right, r.old, f.result);
+    let (t0, t1, t2) = (r.first, r.second, r.third);
     row.copy_from_slice(&[
-        r.pc,
-        r.time,
-        c.add,
-        c.sub,
-        c.xor,
-        c.or,
-        c.and,
-        r.rd,
-        r.rs1,
-        r.rs2,
-        r.use_imm,
-        r.imm.x0,
-        r.imm.x1,
-        r.imm.x2,
-        r.imm.x3,
-        r.left.x0,
-        r.left.x1,
-        r.left.x2,
-        r.left.x3,
-        r.right.x0,
-        r.right.x1,
-        r.right.x2,
-        r.right.x3,
-        r.old.x0,
-        r.old.x1,
-        r.old.x2,
-        r.old.x3,
-        c.result.x0,
-        c.result.x1,
-        c.result.x2,
-        c.result.x3,
-        r.first.before,
-        r.first.lo,
-        r.first.hi,
-        r.second.before,
-        r.second.lo,
-        r.second.hi,
-        r.third.before,
-        r.third.lo,
-        r.third.hi,
+        r.pc, r.time, f.add, f.sub, f.xor, f.or, f.and, r.rd, r.rs1, r.rs2, r.use_imm, i.x0, i.x1,
+        i.x2, i.x3, b.x0, b.x1, b.x2, b.x3, c.x0, c.x1, c.x2, c.x3, o.x0, o.x1, o.x2, o.x3, a.x0,
+        a.x1, a.x2, a.x3, t0.before, t0.lo, t0.hi, t1.before, t1.lo, t1.hi, t2.before, t2.lo,
+        t2.hi,
     ]);
 }
 

@@ -1,14 +1,13 @@
 -- Words of a row, and the numbers that they make.
-use Rattle.std.proofs.Common.{◌≡◌, ℕ, ◌^◌, ◌<◌, List, [], ◌∷◌, length, refl, sym, ap, ◌∙◌, arith, lit<, slice_index, zero, suc}
+use Rattle.std.proofs.Common.{◌≡◌, ℕ, ◌^◌, ◌<◌, List, [], ◌∷◌, length, refl, arith, lit<, slice_index, zero, suc}
 use Rattle.std.proofs.Math.Nat.{pow-suc}
 use Rattle.vm_word.specs.Word.{word_of_limbs, limbs_of}
 use Rattle.vm_word.proofs.WordLemmas.{word_of_limbs-lt, limbs_of-word_of_limbs}
 use Rattle.vm_isa.specs.Words.{IsBytes, IsWord}
-use Rattle.vm_isa.proofs.InstrLaws.{four}
 use Rattle.air_core.specs.Sheet.{AllBelow}
 use Rattle.air_core.specs.ListLemmas.{below_at, all_weaker}
 use Rattle.vm_field.specs.declared.limbs.Limbs.{Limbs}
-use Rattle.vm_field.specs.Limbs.{list_of, limbs_from, limbs_at, LimbsBelow}
+use Rattle.vm_field.specs.Limbs.{list_of, limbs_at, LimbsBelow}
 use Rattle.gadget_limbs.specs.Number.{number_of}
 
 -- columns of a row of elements are elements

@@ -1,6 +1,6 @@
 -- What is looked up of a limb of a result says that it is right.
 use Rattle.std.proofs.Common.{◌≡◌, ℕ, ◌+◌, ◌*◌, ◌<◌, [], ◌∷◌, bit_xor, bit_or, bit_and, refl, sym, ap, ◌∙◌, arith}
-use Rattle.std.proofs.lemmas.Nat.{xor_of_8, or_of_8, and_le_l}
+use Rattle.std.proofs.lemmas.Nat.{xor_of_8, and_le_l}
 use lib.Bits.{xor_self}
 use Rattle.vm_field.specs.Field.{modulus}
 use Rattle.air_core.specs.Lookups.{IsXorRow}
