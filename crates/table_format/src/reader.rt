@@ -17,7 +17,7 @@ const MAX_HEIGHT_CODE: u8 = 21;
 
 // The number of rows that a code stands for.
 fn height_of(code: u8) -> u32
-    requires { code ≤ 32 }
+    requires { code ≤ 31 }
     ensures { result ≡ height_of code }
 {
     if code == 0 { 0 } else { 1 << (code - 1) }
