@@ -59,21 +59,28 @@ fn said(op: u32) -> [Event; 15] {
     ]
 }
 
-/// Whether the constraints of the form hold, and the row says what is written above.
-fn is_right(regs: &Regs, op: u16) -> bool {
-    let new = Limbs::of_bytes(&[0, 1, 0, 0]);
-    immediate(regs) == [Fe::ZERO; 4]
-        && times(regs, Fe::ONE, new) == [Fe::ZERO; 3]
-        && events::<8>(regs, Fe::ONE, Fe::of_u16(op), new) == said(op as u32)
+fn new_word() -> Limbs {
+    Limbs::of_bytes(&[0, 1, 0, 0])
+}
+
+/// The values of the constraints of the form, and what the row says.
+fn of_row(regs: &Regs, op: u16) -> ([Fe; 4], [Fe; 3], [Event; 15]) {
+    let immediates = immediate(regs);
+    let accesses = times(regs, Fe::ONE, new_word());
+    let says = events::<8>(regs, Fe::ONE, Fe::of_u16(op), new_word());
+    (immediates, accesses, says)
 }
 
 /// A sum in the form with immediates, and a product in that without.
 #[test]
 fn both_forms(rt: HostRuntime) -> Result<(), Fail> {
     let sum = read(&elements(&WITH_IMMEDIATES), 3, 23);
-    assert!(rt; is_right(&sum, 1));
     let product = read3(&elements(&WITHOUT_IMMEDIATES), 3, 18);
-    assert!(rt; is_right(&product, 29));
-    assert!(rt; !is_right(&read3(&elements(&WITHOUT_IMMEDIATES), 3, 17), 29));
+    let (immediates, accesses, says) = of_row(&sum, 1);
+    assert_eq!(rt; (immediates, accesses), ([Fe::ZERO; 4], [Fe::ZERO; 3]));
+    assert_eq!(rt; says, said(1));
+    let (immediates, accesses, says) = of_row(&product, 29);
+    assert_eq!(rt; (immediates, accesses), ([Fe::ZERO; 4], [Fe::ZERO; 3]));
+    assert_eq!(rt; says, said(29));
     Ok(())
 }
