@@ -8,13 +8,18 @@ use std::alloc::Global;
 /// Where a row of the execution bus begins, and where it goes.
 #[derive(Clone, Copy, Debug, PartialEq, Eq)]
 pub struct PathRow {
+    /// The pc of its instruction.
     pub from_pc: u32,
+    /// The time of its first slot.
     pub from_time: u32,
+    /// The pc that follows.
     pub to_pc: u32,
+    /// The time of the slot that follows its own.
     pub to_time: u32,
 }
 
-/// The places of the rows in rising order of `from_time`, equal times by place.
+/// The places of the rows in rising order of `from_time`, equal times by place. It fails only where
+/// memory is out.
 pub fn order_rows(alloc: Global, rows: &[PathRow]) -> Result<Vec<usize>, OutOfMemory>
     ensures { IfOk result (λ places. IsOrder rows.now places.items) }
 {

@@ -55,7 +55,7 @@ fn block_ends(page: &Touched, block: u32) -> [Event; 2]
 }
 
 /// Hands the events of a page's blocks to a sink, block by block: the old word is sent at time 0, and
-/// the new word received at the block's final time.
+/// the new word received at the block's final time. It fails only where the sink does.
 pub fn boundary_events<S: EventSink>(page: &Touched, sink: &mut S) -> Result<(), OutOfMemory>
     requires { 32 ≤ S.room sink.old }
     ensures ok { OnOk result (Handed S.holds S.room sink.old sink.new (boundary_events page.now)) }

@@ -1,9 +1,8 @@
-// A leaf that a tree keeps.
-/// A leaf and its label.
+// What a tree keeps.
+/// 64 bytes that a tree keeps.
 #[derive(Clone, Copy, Debug, PartialEq, Eq)]
 pub struct Leaf {
-    /// Its number in the tree.
+    /// Their place in the tree, from 0 to 2^25 - 1: space * 2^23, plus the page's number in that space.
     pub label: u32,
-    /// Its bytes.
     pub bytes: [u8; 64],
 }

@@ -5,6 +5,7 @@
 mod hash;
 pub mod laws;
 mod leaf;
+mod node;
 mod opening;
 mod path;
 mod start;

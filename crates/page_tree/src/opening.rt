@@ -6,6 +6,7 @@ ghost use Rattle.page_tree.specs.Opening.{AreLabels, needed, siblings_needed, wa
 ghost use Rattle.page_tree.specs.Parts.{labels_of, old_at, new_at, IsPart, Parts, AreRoots, AreTreeRoots, IsOpenedBy, PagesOpenOrCollide};
 
 use crate::hash::{leaf_digest, pair_digest};
+use crate::node::{HIGHEST, Node, Places};
 use crate::{Digest, Touched};
 use thiserror::Error;
 
@@ -17,34 +18,33 @@ pub enum OpeningError {
     SiblingsWrong { needed: u32, given: u32 },
 }
 
-// The first of the places from `from` to `to` whose label is `middle` or more, or `to`.
-pub fn parting(labels: &[u32], from: usize, to: usize, middle: u32) -> usize
+// The first of the places whose label is `middle` or more, or their end.
+pub fn parting(labels: &[u32], places: Places, middle: u32) -> usize
     requires rising { IsStrictlyIncreasing labels.now }
-    requires ordered { from ≤ to }
-    requires in_list { to ≤ length labels.now }
-    ensures { Parts labels.now from to middle result }
+    requires ordered { places.from ≤ places.to }
+    requires in_list { places.to ≤ length labels.now }
+    ensures { Parts labels.now places.from places.to middle result }
 {
-    from + labels[from..to].partition_point(|label| *label < middle)
+    places.from + labels[places.from..places.to].partition_point(|label| *label < middle)
 }
 
 // The number of siblings that an opening needs below a node.
-fn needed_below(labels: &[u32], level: u32, index: u32, from: usize, to: usize) -> u32
+fn needed_below(labels: &[u32], top: Node, places: Places) -> u32
     requires rising { IsStrictlyIncreasing labels.now }
-    requires in_tree { (index + 1) * 2 ^ level ≤ 2 ^ 25 }
-    requires small { level ≤ 25 }
-    requires part { IsPart labels.now level index from to }
-    ensures { result ≡ needed labels.now level index }
+    requires in_tree { (top.index + 1) * 2 ^ top.level ≤ 2 ^ 25 }
+    requires small { top.level ≤ 25 }
+    requires part { IsPart labels.now top.level top.index places.from places.to }
+    ensures { result ≡ needed labels.now top.level top.index }
 {
-    if from == to {
+    if places.from == places.to {
         return 1;
     }
-    if level == 0 {
+    if top.level == 0 {
         return 0;
     }
-    let middle = (2 * index + 1) * 2u32.pow(level - 1);
-    let at = parting(labels, from, to, middle);
-    let left = needed_below(labels, level - 1, 2 * index, from, at);
-    let right = needed_below(labels, level - 1, 2 * index + 1, at, to);
+    let at = parting(labels, places, top.middle());
+    let left = needed_below(labels, top.left(), places.up_to(at));
+    let right = needed_below(labels, top.right(), places.starting(at));
     left + right
 }
 
@@ -54,17 +54,19 @@ pub fn sibling_count(labels: &[u32]) -> u32
     requires in_tree { AreLabels labels.now }
     ensures { result ≡ siblings_needed labels.now }
 {
-    needed_below(labels, 25, 0, 0, labels.len())
+    let count = labels.len();
+    let all = Places { from: 0, to: count };
+    needed_below(labels, HIGHEST, all)
 }
 
 // The same as `parting`, at the labels of pages.
-fn page_parting(pages: &[Touched], from: usize, to: usize, middle: u32) -> usize
+fn page_parting(pages: &[Touched], places: Places, middle: u32) -> usize
     requires rising { IsStrictlyIncreasing (labels_of pages.now) }
-    requires ordered { from ≤ to }
-    requires in_list { to ≤ length pages.now }
-    ensures { Parts (labels_of pages.now) from to middle result }
+    requires ordered { places.from ≤ places.to }
+    requires in_list { places.to ≤ length pages.now }
+    ensures { Parts (labels_of pages.now) places.from places.to middle result }
 {
-    from + pages[from..to].partition_point(|page| page.label < middle)
+    places.from + pages[places.from..places.to].partition_point(|page| page.label < middle)
 }
 
 // The digests of a node over old and over new bytes, and how many siblings have been taken.
@@ -90,23 +92,21 @@ fn sibling_at(siblings: &[Digest], taken: usize) -> Digest
 fn roots_below(
     pages: &[Touched],
     siblings: &[Digest],
-    level: u32,
-    index: u32,
-    from: usize,
-    to: usize,
+    top: Node,
+    places: Places,
     taken: usize,
 ) -> Roots
     requires rising { IsStrictlyIncreasing (labels_of pages.now) }
-    requires in_tree { (index + 1) * 2 ^ level ≤ 2 ^ 25 }
-    requires small { level ≤ 25 }
-    requires in_list { to ≤ length pages.now }
-    requires part { IsPart (labels_of pages.now) level index from to }
-    requires few { taken ≤ index * 2 ^ level }
-    ensures taken { result.taken ≡ taken + needed (labels_of pages.now) level index }
-    ensures old { result.old ≡ (walk (labels_of pages.now) (old_at pages.now) level index (drop taken siblings.now)).digest }
-    ensures new { result.new ≡ (walk (labels_of pages.now) (new_at pages.now) level index (drop taken siblings.now)).digest }
+    requires in_tree { (top.index + 1) * 2 ^ top.level ≤ 2 ^ 25 }
+    requires small { top.level ≤ 25 }
+    requires in_list { places.to ≤ length pages.now }
+    requires part { IsPart (labels_of pages.now) top.level top.index places.from places.to }
+    requires few { taken ≤ top.index * 2 ^ top.level }
+    ensures taken { result.taken ≡ taken + needed (labels_of pages.now) top.level top.index }
+    ensures old { result.old ≡ (walk (labels_of pages.now) (old_at pages.now) top.level top.index (drop taken siblings.now)).digest }
+    ensures new { result.new ≡ (walk (labels_of pages.now) (new_at pages.now) top.level top.index (drop taken siblings.now)).digest }
 {
-    if from == to {
+    if places.from == places.to {
         let digest = sibling_at(siblings, taken);
         return Roots {
             old: digest,
@@ -114,26 +114,18 @@ fn roots_below(
             taken: taken + 1,
         };
     }
-    if level == 0 {
-        let page = &pages[from];
+    if top.level == 0 {
+        let page = &pages[places.from];
         return Roots {
             old: leaf_digest(&page.old),
             new: leaf_digest(&page.new),
             taken,
         };
     }
-    let middle = (2 * index + 1) * 2u32.pow(level - 1);
-    let at = page_parting(pages, from, to, middle);
-    let left = roots_below(pages, siblings, level - 1, 2 * index, from, at, taken);
-    let right = roots_below(
-        pages,
-        siblings,
-        level - 1,
-        2 * index + 1,
-        at,
-        to,
-        left.taken,
-    );
+    let at = page_parting(pages, places, top.middle());
+    let (first, second) = (places.up_to(at), places.starting(at));
+    let left = roots_below(pages, siblings, top.left(), first, taken);
+    let right = roots_below(pages, siblings, top.right(), second, left.taken);
     Roots {
         old: pair_digest(&left.old, &right.old),
         new: pair_digest(&left.new, &right.new),
@@ -159,7 +151,9 @@ pub fn roots_of(pages: &[Touched], siblings: &[Digest]) -> Result<(Digest, Diges
     ensures complete { (m : Leaves) → IsOpenedBy m pages.now siblings.now → IsOk result }
     ensures of_tree { IfOk result (λ roots. (m : Leaves) → IsOpenedBy m pages.now siblings.now → AreTreeRoots m pages.now roots.0 roots.1) }
 {
-    let roots = roots_below(pages, siblings, 25, 0, 0, pages.len(), 0);
+    let count = pages.len();
+    let all = Places { from: 0, to: count };
+    let roots = roots_below(pages, siblings, HIGHEST, all, 0);
     if roots.taken != siblings.len() {
         return Err(OpeningError::SiblingsWrong {
             needed: roots.taken as u32,

@@ -10,6 +10,7 @@ ghost use Rattle.page_tree.specs.Kept.{leaf_labels, leaves_of, put_at, AreKept, 
 
 use crate::hash::{leaf_digest, pair_digest};
 use crate::leaf::Leaf;
+use crate::node::{HIGHEST, Node, Places};
 use crate::opening::parting;
 use crate::path::PUBLIC_LABEL;
 use crate::{Digest, OutOfMemory};
@@ -29,59 +30,54 @@ fn zero_digests() -> [Digest; 26]
     digests
 }
 
-// The first of the places from `from` to `to` whose label is `middle` or more, or `to`.
-fn leaf_parting(leaves: &[Leaf], from: usize, to: usize, middle: u32) -> usize
+// The first of the places whose label is `middle` or more, or their end.
+fn leaf_parting(leaves: &[Leaf], places: Places, middle: u32) -> usize
     requires rising { IsStrictlyIncreasing (leaf_labels leaves.now) }
-    requires ordered { from ≤ to }
-    requires in_list { to ≤ length leaves.now }
-    ensures { Parts (leaf_labels leaves.now) from to middle result }
+    requires ordered { places.from ≤ places.to }
+    requires in_list { places.to ≤ length leaves.now }
+    ensures { Parts (leaf_labels leaves.now) places.from places.to middle result }
 {
-    from + leaves[from..to].partition_point(|leaf| leaf.label < middle)
+    places.from + leaves[places.from..places.to].partition_point(|leaf| leaf.label < middle)
 }
 
 // The digest of a node, below which the leaves at these places lie.
-fn digest_below(
-    leaves: &[Leaf],
-    zeros: &[Digest; 26],
-    level: u32,
-    index: u32,
-    from: usize,
-    to: usize,
-) -> Digest
+fn digest_below(leaves: &[Leaf], zeros: &[Digest; 26], top: Node, places: Places) -> Digest
     requires rising { IsStrictlyIncreasing (leaf_labels leaves.now) }
     requires zeros { AreZeroDigests zeros.now }
-    requires in_tree { (index + 1) * 2 ^ level ≤ 2 ^ 25 }
-    requires small { level ≤ 25 }
-    requires in_list { to ≤ length leaves.now }
-    requires part { IsPart (leaf_labels leaves.now) level index from to }
-    ensures { result ≡ sha256 (node (leaves_of leaves.now) level index) }
+    requires in_tree { (top.index + 1) * 2 ^ top.level ≤ 2 ^ 25 }
+    requires small { top.level ≤ 25 }
+    requires in_list { places.to ≤ length leaves.now }
+    requires part { IsPart (leaf_labels leaves.now) top.level top.index places.from places.to }
+    ensures { result ≡ sha256 (node (leaves_of leaves.now) top.level top.index) }
 {
-    if from == to {
-        return zeros[level as usize];
+    if places.from == places.to {
+        return zeros[top.level as usize];
     }
-    if level == 0 {
-        let leaf = &leaves[from];
+    if top.level == 0 {
+        let leaf = &leaves[places.from];
         return leaf_digest(&leaf.bytes);
     }
-    let middle = (2 * index + 1) * 2u32.pow(level - 1);
-    let at = leaf_parting(leaves, from, to, middle);
-    let left = digest_below(leaves, zeros, level - 1, 2 * index, from, at);
-    let right = digest_below(leaves, zeros, level - 1, 2 * index + 1, at, to);
+    let at = leaf_parting(leaves, places, top.middle());
+    let left = digest_below(leaves, zeros, top.left(), places.up_to(at));
+    let right = digest_below(leaves, zeros, top.right(), places.starting(at));
     pair_digest(&left, &right)
 }
 
 // The digest of any node.
-fn node_digest(leaves: &[Leaf], zeros: &[Digest; 26], level: u32, index: u32) -> Digest
+fn node_digest(leaves: &[Leaf], zeros: &[Digest; 26], top: Node) -> Digest
     requires rising { IsStrictlyIncreasing (leaf_labels leaves.now) }
     requires zeros { AreZeroDigests zeros.now }
-    requires in_tree { (index + 1) * 2 ^ level ≤ 2 ^ 25 }
-    requires small { level ≤ 25 }
-    ensures { result ≡ sha256 (node (leaves_of leaves.now) level index) }
+    requires in_tree { (top.index + 1) * 2 ^ top.level ≤ 2 ^ 25 }
+    requires small { top.level ≤ 25 }
+    ensures { result ≡ sha256 (node (leaves_of leaves.now) top.level top.index) }
 {
-    let width = 2u32.pow(level);
-    let from = leaf_parting(leaves, 0, leaves.len(), index * width);
-    let to = leaf_parting(leaves, from, leaves.len(), (index + 1) * width);
-    digest_below(leaves, zeros, level, index, from, to)
+    let width = 2u32.pow(top.level);
+    let count = leaves.len();
+    let all = Places { from: 0, to: count };
+    let from = leaf_parting(leaves, all, top.index * width);
+    let rest = Places { from, to: count };
+    let to = leaf_parting(leaves, rest, (top.index + 1) * width);
+    digest_below(leaves, zeros, top, Places { from, to })
 }
 
 // The index of the node beside a node.
@@ -97,58 +93,36 @@ fn add_siblings(
     leaves: &[Leaf],
     labels: &[u32],
     zeros: &[Digest; 26],
-    level: u32,
-    index: u32,
-    leaf_from: usize,
-    leaf_to: usize,
-    from: usize,
-    to: usize,
+    top: Node,
+    kept: Places,
+    places: Places,
     siblings: &mut Vec<Digest>,
 ) -> Result<(), OutOfMemory>
     requires leaves_rise { IsStrictlyIncreasing (leaf_labels leaves.now) }
     requires labels_rise { IsStrictlyIncreasing labels.now }
     requires zeros { AreZeroDigests zeros.now }
-    requires in_tree { (index + 1) * 2 ^ level ≤ 2 ^ 25 }
-    requires small { level ≤ 25 }
-    requires leaves_in_list { leaf_to ≤ length leaves.now }
-    requires leaves_part { IsPart (leaf_labels leaves.now) level index leaf_from leaf_to }
-    requires labels_part { IsPart labels.now level index from to }
-    ensures { OnOk result (siblings.new.items ≡ siblings.old.items ++ siblings_below (leaves_of leaves.now) labels.now level index) }
+    requires in_tree { (top.index + 1) * 2 ^ top.level ≤ 2 ^ 25 }
+    requires small { top.level ≤ 25 }
+    requires leaves_in_list { kept.to ≤ length leaves.now }
+    requires leaves_part { IsPart (leaf_labels leaves.now) top.level top.index kept.from kept.to }
+    requires labels_part { IsPart labels.now top.level top.index places.from places.to }
+    ensures { OnOk result (siblings.new.items ≡ siblings.old.items ++ siblings_below (leaves_of leaves.now) labels.now top.level top.index) }
 {
-    if from == to {
-        siblings.push(digest_below(leaves, zeros, level, index, leaf_from, leaf_to))?;
+    if places.from == places.to {
+        siblings.push(digest_below(leaves, zeros, top, kept))?;
         return Ok(());
     }
-    if level == 0 {
+    if top.level == 0 {
         return Ok(());
     }
-    let middle = (2 * index + 1) * 2u32.pow(level - 1);
-    let leaf_at = leaf_parting(leaves, leaf_from, leaf_to, middle);
-    let at = parting(labels, from, to, middle);
-    add_siblings(
-        leaves,
-        labels,
-        zeros,
-        level - 1,
-        2 * index,
-        leaf_from,
-        leaf_at,
-        from,
-        at,
-        siblings,
-    )?;
-    add_siblings(
-        leaves,
-        labels,
-        zeros,
-        level - 1,
-        2 * index + 1,
-        leaf_at,
-        leaf_to,
-        at,
-        to,
-        siblings,
-    )
+    let middle = top.middle();
+    let leaf_at = leaf_parting(leaves, kept, middle);
+    let at = parting(labels, places, middle);
+    let (left, right) = (top.left(), top.right());
+    let (first, second) = (places.up_to(at), places.starting(at));
+    let (kept_first, kept_second) = (kept.up_to(leaf_at), kept.starting(leaf_at));
+    add_siblings(leaves, labels, zeros, left, kept_first, first, siblings)?;
+    add_siblings(leaves, labels, zeros, right, kept_second, second, siblings)
 }
 
 /// A Merkle tree with 2^25 leaves of 64 bytes, of which those that were not put are zeros.
@@ -170,7 +144,7 @@ impl Model for Tree {
 }
 
 impl Tree {
-    /// The tree whose leaves are all zeros.
+    /// The tree whose leaves are all zeros. It takes no memory yet.
     pub fn new(alloc: Global) -> Tree
         ensures { (j : ℕ) → leaves_of result j ≡ replicate 64 0 }
     {
@@ -179,12 +153,14 @@ impl Tree {
         }
     }
 
-    /// The leaf at a label.
+    /// The 64 bytes at a label: zeros where none were put.
     pub fn leaf(&self, label: u32) -> [u8; 64]
         ensures { result ≡ leaves_of self.now label }
     {
-        let at = leaf_parting(&self.leaves, 0, self.leaves.len(), label);
-        if at < self.leaves.len() {
+        let count = self.leaves.len();
+        let all = Places { from: 0, to: count };
+        let at = leaf_parting(&self.leaves, all, label);
+        if at < count {
             let leaf = &self.leaves[at];
             if leaf.label == label {
                 return leaf.bytes;
@@ -193,23 +169,27 @@ impl Tree {
         [0; 64]
     }
 
-    /// The root.
+    /// The digest of the highest node, from scratch at each call.
     pub fn root(&self) -> Digest
         ensures { result ≡ root (leaves_of self.now) }
     {
         let zeros = zero_digests();
-        digest_below(&self.leaves, &zeros, 25, 0, 0, self.leaves.len())
+        let count = self.leaves.len();
+        let all = Places { from: 0, to: count };
+        digest_below(&self.leaves, &zeros, HIGHEST, all)
     }
 
-    /// Sets the leaf at a label.
+    /// Sets the 64 bytes at a label. It fails only where memory is out.
     pub fn put(&mut self, label: u32, page: [u8; 64]) -> Result<(), OutOfMemory>
         requires { label < 2 ^ 25 }
         ensures ok { OnOk result ((j : ℕ) → leaves_of self.new j ≡ put_at (leaves_of self.old) label page j) }
         ensures err { OnErr result (self.new ≡ self.old) }
     {
-        let at = leaf_parting(&self.leaves, 0, self.leaves.len(), label);
+        let count = self.leaves.len();
+        let all = Places { from: 0, to: count };
+        let at = leaf_parting(&self.leaves, all, label);
         let leaf = Leaf { label, bytes: page };
-        if at < self.leaves.len() && self.leaves[at].label == label {
+        if at < count && self.leaves[at].label == label {
             self.leaves[at] = leaf;
         } else {
             self.leaves.insert(at, leaf)?;
@@ -217,7 +197,8 @@ impl Tree {
         Ok(())
     }
 
-    /// The siblings that open these labels.
+    /// The siblings that open these labels, in the order in which `roots_of` takes them. It fails only
+    /// where memory is out.
     pub fn make_opening(&self, alloc: Global, labels: &[u32]) -> Result<Vec<Digest>, OutOfMemory>
         requires rising { IsStrictlyIncreasing labels.now }
         requires in_tree { AreLabels labels.now }
@@ -225,18 +206,12 @@ impl Tree {
     {
         let zeros = zero_digests();
         let mut siblings = Vec::new(alloc);
-        add_siblings(
-            &self.leaves,
-            labels,
-            &zeros,
-            25,
-            0,
-            0,
-            self.leaves.len(),
-            0,
-            labels.len(),
-            &mut siblings,
-        )?;
+        let count = self.leaves.len();
+        let kept = Places { from: 0, to: count };
+        let count = labels.len();
+        let places = Places { from: 0, to: count };
+        let leaves = &self.leaves;
+        add_siblings(leaves, labels, &zeros, HIGHEST, kept, places, &mut siblings)?;
         Ok(siblings)
     }
 
@@ -249,7 +224,15 @@ impl Tree {
         let mut path = [[0u8; 32]; 25];
         let mut index = PUBLIC_LABEL;
         for level in 0..25 {
-            path[level as usize] = node_digest(leaves, &zeros, level, beside(index));
+            let beside = beside(index);
+            path[level as usize] = node_digest(
+                leaves,
+                &zeros,
+                Node {
+                    level,
+                    index: beside,
+                },
+            );
             index /= 2;
         }
         path
