@@ -1,6 +1,9 @@
--- A file of no steps, of an image that ends where it begins.
-use Rattle.std.specs.Prelude.{ℕ, true, [], ◌∷◌, map, replicate}
+-- Files that are accepted: of no steps, where a program ends at its entry, and of one no-operation before the end.
+use Rattle.std.specs.Prelude.{◌≡◌, ℕ, ◌+◌, true, Some, List, [], ◌∷◌, map, replicate, slice_get}
 use Rattle.elf_image.specs.Loaded.{Loaded}
+use Rattle.vm_isa.specs.declared.instr.VmInstr.{VmInstr}
+use Rattle.vm_transpile.specs.Program.{program_of}
+use Rattle.air_core.specs.declared.count.CountEntry.{CountEntry}
 use Rattle.air_core.specs.System.{System}
 use Rattle.page_tree.specs.Tree.{root}
 use Rattle.page_tree.specs.Opening.{siblings_of}
@@ -9,17 +12,17 @@ use Rattle.page_tree.specs.Start.{start_map}
 use Rattle.acceptance.specs.File.{Segment, File}
 use Rattle.acceptance.specs.Accepts.{public_label}
 
--- one segment, whose tables have no rows and which touches no page
-abbrev pub resting_segment : System → Loaded → Segment
-resting_segment x image = record {
+-- one segment, from the entry to a pc and a time, with rows of tables and counts of program rows, which touches no page
+abbrev pub still_segment : Loaded → ℕ → ℕ → List (List (List ℕ)) → List CountEntry → Segment
+still_segment image end time tables program = record {
   pc_start = image.entry;
-  pc_end = image.entry;
-  end_time = 1;
+  pc_end = end;
+  end_time = time;
   ends = true;
   start_root = root (start_map image);
   end_root = root (start_map image);
-  tables = map (λ p. []) x.parts;
-  program = [];
+  tables = tables;
+  program = program;
   xor = [];
   range = [];
   constants = [];
@@ -27,10 +30,26 @@ resting_segment x image = record {
   siblings = siblings_of (start_map image) [];
 }
 
-abbrev pub resting_file : System → Loaded → ℕ → File
-resting_file x image code = record {
-  segments = resting_segment x image ∷ [];
+abbrev pub still_file : Loaded → Segment → ℕ → File
+still_file image segment code = record {
+  segments = segment ∷ [];
   code = code;
   public_bytes = replicate 64 0;
   path = path_of (start_map image) public_label;
 }
+
+-- tables without rows
+abbrev pub resting_file : System → Loaded → ℕ → File
+resting_file x image code = still_file image (still_segment image image.entry 1 (map (λ p. []) x.parts) []) code
+
+-- one row of the table of no-operations, at the entry and the time 1, whose program row stands at this place
+abbrev pub stepping_file : Loaded → ℕ → ℕ → File
+stepping_file image place code =
+    still_file image (still_segment image (image.entry + 4) 2 (((image.entry ∷ 1 ∷ 1 ∷ []) ∷ []) ∷ []) (record { place = place; count = 1 } ∷ [])) code
+
+-- the program row at this place is a no-operation at the entry
+pub record BeginsStill (image : Loaded) (place : ℕ) : Type 0 where
+  pub row : VmInstr
+  pub stands : slice_get (program_of image) place ≡ Some row
+  pub here : row.pc ≡ image.entry
+  pub is_nop : row.op ≡ 39

@@ -15,6 +15,8 @@ use Rattle.air_core.specs.declared.event.Event.{Event}
 use Rattle.air_core.specs.Balance.{Balanced, BalancedOn}
 use Rattle.air_core.specs.Totals.{SameTotals, is_bus}
 use Rattle.air_core.specs.System.{System}
+use Rattle.air_core.specs.Join.{single}
+use Rattle.air_core.specs.Nop.{nop_sheet}
 use Rattle.exec_path.specs.Path.{Point, slot_sum}
 use Rattle.exec_path.specs.PathEvents.{execution_events}
 use Rattle.offline_memory.specs.declared.page.Touched.{Touched}
@@ -25,7 +27,7 @@ use Rattle.acceptance.specs.OneRun.{RowStep, TableRow, RowSays, NotOn, OneRun, a
 use Rattle.acceptance.specs.BlockRun.{StepsMeet, after_steps}
 use Rattle.acceptance.specs.File.{Segment, File}
 use Rattle.acceptance.specs.Events.{valid_rows}
-use Rattle.acceptance.specs.Example.{resting_file}
+use Rattle.acceptance.specs.Example.{BeginsStill, resting_file, stepping_file}
 use Rattle.acceptance.specs.Holds.{SegmentHolds}
 use Rattle.acceptance.specs.Spelled.{SegmentSpells, Spell}
 use Rattle.acceptance.specs.Accepts.{Accepts, steps_in, IsHeld, Collides}
@@ -95,3 +97,8 @@ HeldNodesHave64Bytes x = (image : Loaded) (file : File) (node : List ℕ) → Ac
 -- The file of no steps is accepted over an image with a TERMINATE at its entry: what the laws ask can be met.
 abbrev pub RestingFilesAreAccepted : System → Type 0
 RestingFilesAreAccepted x = (image : Loaded) (code : ℕ) → Terminates (program_of image) image.entry code → Accepts x image (resting_file x image code)
+
+-- So is the file of one no-operation, over an image that begins with one before a TERMINATE.
+abbrev pub SteppingFilesAreAccepted : Type 0
+SteppingFilesAreAccepted = (elf : List ℕ) (image : Loaded) (place code : ℕ) → HasImage elf image → BeginsStill image place → Terminates (program_of image) (image.entry + 4) code
+    → Accepts (single (nop_sheet 8)) image (stepping_file image place code)

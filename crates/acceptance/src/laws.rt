@@ -1,5 +1,5 @@
 //! What an accepted file says. Each function is empty: its contract is the law.
-ghost use Rattle.acceptance.specs.Laws.{SegmentsAreRuns, AcceptedFilesAreRunsOnBlocks, AcceptedFilesAreRuns, AcceptedFilesSpell, AcceptedFilesSpellOneList, HeldNodesHave64Bytes, RestingFilesAreAccepted, BalancedStepsAreOneRun, BalancedSegmentIsOneRun, RunsMeetBlocks};
+ghost use Rattle.acceptance.specs.Laws.{SegmentsAreRuns, AcceptedFilesAreRunsOnBlocks, AcceptedFilesAreRuns, AcceptedFilesSpell, AcceptedFilesSpellOneList, HeldNodesHave64Bytes, RestingFilesAreAccepted, SteppingFilesAreAccepted, BalancedStepsAreOneRun, BalancedSegmentIsOneRun, RunsMeetBlocks};
 
 use air_core::Extension;
 
@@ -47,4 +47,9 @@ pub fn held_nodes_have_64_bytes<E: Extension>()
 /// A file of no steps is accepted, where the program ends at its entry.
 pub fn resting_files_are_accepted<E: Extension>()
     ensures { (ext : E) → RestingFilesAreAccepted (E.system ext) }
+{}
+
+/// The file of one no-operation is accepted, where the program begins with one and then ends.
+pub fn stepping_files_are_accepted()
+    ensures { SteppingFilesAreAccepted }
 {}
