@@ -193,17 +193,17 @@ six_balance a b c = record { even = even }
     even : (bus : ℕ) (tuple : List ℕ) → IsEven bus tuple (sent 0 1 a ∷ received 0 1 b ∷ received 0 1 a ∷ sent 0 1 b ∷ sent 1 1 c ∷ received 1 1 c ∷ [])
     even bus tuple =
         let sum : (side : Side) → total side bus tuple (sent 0 1 a ∷ received 0 1 b ∷ received 0 1 a ∷ sent 0 1 b ∷ sent 1 1 c ∷ received 1 1 c ∷ [])
-            ≡ amount_at side bus tuple (sent 0 1 a) + (amount_at side bus tuple (received 0 1 b) + (amount_at side bus tuple (received 0 1 a) + (amount_at side bus tuple (sent 0 1 b) + (amount_at side bus tuple (sent 1 1 c) + amount_at side bus tuple (received 1 1 c)))))
-            = λ side.
-            omega (
-              arith,
-              total-cons side bus tuple (sent 0 1 a) (received 0 1 b ∷ received 0 1 a ∷ sent 0 1 b ∷ sent 1 1 c ∷ received 1 1 c ∷ []),
-              total-cons side bus tuple (received 0 1 b) (received 0 1 a ∷ sent 0 1 b ∷ sent 1 1 c ∷ received 1 1 c ∷ []),
-              total-cons side bus tuple (received 0 1 a) (sent 0 1 b ∷ sent 1 1 c ∷ received 1 1 c ∷ []),
-              total-cons side bus tuple (sent 0 1 b) (sent 1 1 c ∷ received 1 1 c ∷ []),
-              total-cons side bus tuple (sent 1 1 c) (received 1 1 c ∷ []),
-              total-cons side bus tuple (received 1 1 c) [],
-            ) in
+        ≡ amount_at side bus tuple (sent 0 1 a) + (amount_at side bus tuple (received 0 1 b) + (amount_at side bus tuple (received 0 1 a) + (amount_at side bus tuple (sent 0 1 b) + (amount_at side bus tuple (sent 1 1 c) + amount_at side bus tuple (received 1 1 c)))))
+        = λ side.
+        omega (
+          arith,
+          total-cons side bus tuple (sent 0 1 a) (received 0 1 b ∷ received 0 1 a ∷ sent 0 1 b ∷ sent 1 1 c ∷ received 1 1 c ∷ []),
+          total-cons side bus tuple (received 0 1 b) (received 0 1 a ∷ sent 0 1 b ∷ sent 1 1 c ∷ received 1 1 c ∷ []),
+          total-cons side bus tuple (received 0 1 a) (sent 0 1 b ∷ sent 1 1 c ∷ received 1 1 c ∷ []),
+          total-cons side bus tuple (sent 0 1 b) (sent 1 1 c ∷ received 1 1 c ∷ []),
+          total-cons side bus tuple (sent 1 1 c) (received 1 1 c ∷ []),
+          total-cons side bus tuple (received 1 1 c) [],
+        ) in
         omega (
           arith,
           sum Send,
