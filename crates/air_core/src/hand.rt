@@ -7,7 +7,7 @@ ghost use Rattle.air_core.specs.Sink.{Handed, HandedSome};
 use crate::{Event, EventSink, OutOfMemory, Side, Tuple};
 use vm_field::Fe;
 
-/// An event that sends.
+/// What a row sends on a bus. With a count of 0 it is an event still, and dropped where events are handed over.
 pub fn send(bus: u8, count: Fe, numbers: &[Fe]) -> Event
     requires { length numbers.now ≤ 50 }
     ensures { result ≡ sent bus count numbers.now }
@@ -20,7 +20,7 @@ pub fn send(bus: u8, count: Fe, numbers: &[Fe]) -> Event
     }
 }
 
-/// An event that receives.
+/// What a row receives from a bus, as `send`.
 pub fn receive(bus: u8, count: Fe, numbers: &[Fe]) -> Event
     requires { length numbers.now ≤ 50 }
     ensures { result ≡ received bus count numbers.now }

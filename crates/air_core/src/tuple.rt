@@ -54,7 +54,7 @@ impl Tuple {
         }
     }
 
-    /// The tuple of the numbers of these elements.
+    /// As `of`, without an array of numbers between.
     pub fn of_elements(elements: &[Fe]) -> Tuple
         requires { length elements.now ≤ MAX_TUPLE }
         ensures { result ≡ elements.now }

@@ -9,7 +9,7 @@ use Rattle.gadget_limbs.specs.Sum.{sum_constraints}
 use Rattle.adapter_regs.specs.declared.regs.Regs.{Regs}
 use Rattle.adapter_regs.specs.Regs.{immediate_constraints, time_constraints, regs_front}
 use Rattle.chip_alu.specs.declared.columns.AluRow.{AluRow}
-use Rattle.chip_alu.specs.Alu.{alu_constraints, alu_flags, alu_valid, alu_op, mixed_lines, alu_lines}
+use Rattle.chip_alu.specs.Alu.{alu_constraints, alu_flags, alu_valid, alu_op, alu_operation, mixed_lines, alu_lines}
 
 length-flags : (r : AluRow) → length (flag_constraints (alu_flags r)) ≡ 6
 unfolding flag_constraints alu_flags
@@ -43,6 +43,6 @@ first_by_parts r =
     (length-flags r) (length-immediate r.regs) (length-sums r.add r.regs.left r.regs.right r.result) (length-sums r.sub r.result r.regs.right r.regs.left)
 
 -- all that a row says, by what the register form says and the lookups
-pub lines_by_parts : (hi : ℕ) (r : AluRow) → regs_front hi r.regs (alu_valid r) (alu_op r) r.result ++ mixed_lines r ≡ alu_lines hi r
-unfolding alu_lines
+pub lines_by_parts : (hi : ℕ) (r : AluRow) → regs_front hi r.regs (alu_operation r).valid (alu_op r) r.result ++ mixed_lines r ≡ alu_lines hi r
+unfolding alu_lines alu_operation
 lines_by_parts hi r = refl

@@ -51,7 +51,7 @@ pub fn events<const HI: u32, S: EventSink>(row: &[Fe], sink: &mut S) -> Result<(
 {
     let r = read(row);
     let flags = operation(&r);
-    let front = adapter_regs::events::<HI>(&r.regs, valid(&r), op(&r), r.result);
+    let front = adapter_regs::events::<HI>(&r.regs, flags.valid, op(&r), r.result);
     let back = lookups(&flags, r.result, r.regs.left, r.regs.right);
     hand_both(&front, &back, sink)
 }

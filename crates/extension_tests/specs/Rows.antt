@@ -1,5 +1,5 @@
 -- Rows as lists of numbers, and what was found of them.
-use Rattle.std.specs.Prelude.{◌≡◌, ℕ, ◌↔◌, Bool, IsTrue, List, [], ◌∷◌, ◌+◌, flat_map, length, map}
+use Rattle.std.specs.Prelude.{◌≡◌, ℕ, ◌↔◌, Bool, IsTrue, List, [], ◌∷◌, ◌++◌, ◌+◌, flat_map, length, map}
 use Rattle.std.specs.List.{AllByRecursion}
 use Rattle.std.specs.declared.vec.Vec.{Vec}
 use Rattle.std.specs.declared.alloc.Global.{Global}
@@ -7,7 +7,8 @@ use Rattle.air_core.specs.declared.event.Event.{Event}
 use Rattle.air_core.specs.ExtensionLaws.{SoundRow}
 use Rattle.air_core.specs.Lookups.{Good}
 use Rattle.air_core.specs.Orders.{Distinct}
-use Rattle.air_core.specs.Sheet.{Sheet, IsRow, RowHolds, row_events}
+use Rattle.air_core.specs.Balance.{Balanced}
+use Rattle.air_core.specs.Sheet.{Sheet, IsRow, RowHolds, counted, row_events}
 use Rattle.air_core.specs.Sink.{Handed}
 use Rattle.air_core.specs.System.{System, EachRow, all_events, times_of}
 
@@ -32,6 +33,11 @@ rows_in (rows ∷ tables) = length rows + rows_in tables
 
 abbrev pub IsWide : Sheet → List ℕ → Type 0
 IsWide sheet row = length row ≡ sheet.width
+
+-- every row holds, and all that the rows and others say balances
+pub record HoldsAndBalances (system : System) (tables : List (List (List ℕ))) (others : List Event) : Type 0 where
+  pub hold : EachRow RowHolds system.parts tables
+  pub balanced : Balanced (counted others ++ all_events system.parts tables)
 
 -- a row of field elements whose lookups and program tuple are good
 abbrev pub IsFit : Sheet → List ℕ → Type 0

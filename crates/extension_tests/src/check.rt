@@ -6,7 +6,7 @@ ghost use Rattle.air_core.specs.declared.event.Event.{Event as AnEvent};
 ghost use Rattle.air_core.specs.Balance.{Balanced};
 ghost use Rattle.air_core.specs.System.{EachRow, sheet_at};
 ghost use Rattle.bus_core.specs.Sums.{Holds};
-ghost use Rattle.extension_tests.specs.Rows.{lists, all_lists, rows_in, IsWide, RowsHanded, RowsMean};
+ghost use Rattle.extension_tests.specs.Rows.{lists, all_lists, rows_in, IsWide, RowsHanded, HoldsAndBalances, RowsMean};
 
 use air_core::{Event, EventSink, Extension, OutOfMemory, hand_counted};
 use bus_core::Balance;
@@ -50,7 +50,8 @@ pub fn check_tables<E: Extension>(
     requires wide { EachRow IsWide (E.system ext.now).parts (all_lists tables.now) }
     requires others { AllByRecursion (λ e. e.bus < 6) others.now }
     requires few { length others.now + 256 * rows_in (all_lists tables.now) ≤ 2 ^ 96 }
-    ensures { IfOk result (λ yes. IsTrue yes → RowsMean (E.system ext.now) (all_lists tables.now)) }
+    ensures exact { IfOk result (λ yes. IsTrue yes ↔ HoldsAndBalances (E.system ext.now) (all_lists tables.now) others.now) }
+    ensures meaning { IfOk result (λ yes. IsTrue yes → RowsMean (E.system ext.now) (all_lists tables.now)) }
 {
     let mut balance = Balance::new(alloc);
     hand_counted(others, &mut balance)?;

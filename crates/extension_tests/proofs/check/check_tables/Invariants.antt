@@ -1,4 +1,4 @@
-use Rattle.std.proofs.Common.{◌≡◌, ◌*◌, ◌≤◌, List, ◌++◌, drop}
+use Rattle.std.proofs.Common.{◌≡◌, ◌*◌, ◌≤◌, ◌↔◌, List, ◌++◌, drop}
 use Rattle.air_core.specs.declared.event.Event.{Event}
 use Rattle.air_core.specs.Sheet.{RowHolds, counted}
 use Rattle.air_core.specs.System.{EachRow, all_events}
@@ -13,7 +13,7 @@ invariant-loop-table g l =
     let all = all_lists l.tables in
     record {
       kept : (list : List Event) × (Holds l.balance list × (list ++ all_events (drop l.table parts) (drop l.table all) ≡ counted l.others ++ all_events parts all));
-      hold : EachRow RowHolds (drop l.table parts) (drop l.table all) → EachRow RowHolds parts all;
+      hold : EachRow RowHolds (drop l.table parts) (drop l.table all) ↔ EachRow RowHolds parts all;
       wide : EachRow IsWide (drop l.table parts) (drop l.table all);
       room : 256 * rows_in (drop l.table all) ≤ room_of l.balance;
     }
