@@ -1,5 +1,5 @@
 -- The memory that is kept: the image, and over it a page wherever something was stored.
-use Rattle.std.specs.Prelude.{◌≡◌, ℕ, ◌/◌, ◌%◌, ◌<◌, List, length, slice_index, slice_index_or, is_some, true, Option, None, Some}
+use Rattle.std.specs.Prelude.{◌≡◌, ℕ, ◌/◌, ◌%◌, List, slice_index, slice_index_or, is_some, true, Option, None, Some}
 use Rattle.elf_image.specs.Loaded.{byte_of}
 use Rattle.rv_run.specs.declared.memory.Page.{Page}
 use Rattle.rv_run.specs.declared.memory.Memory.{Memory}

@@ -1,6 +1,6 @@
 -- One step of the machine. What an instruction does is the manual's (RISC-V Unprivileged ISA 20191213, the
 -- section beside each); hint store, reveal, SHA block, terminate and the traps are this project's own.
-use Rattle.std.specs.Prelude.{ℕ, ◌+◌, ◌-◌, ◌*◌, ◌%◌, ◌^◌, List, [], ◌∷◌, ◌++◌, length, take, drop, map, slice_index, slice_set, Bool, true, ◌&&◌, not, ◌==◌, nat_le, nat_lt, Option, None, Some, if◌then◌else◌, bit_and, bit_or, bit_xor}
+use Rattle.std.specs.Prelude.{ℕ, ◌+◌, ◌-◌, ◌*◌, ◌%◌, ◌^◌, List, ◌++◌, length, take, drop, map, slice_index, slice_set, Bool, ◌&&◌, not, ◌==◌, nat_le, nat_lt, Option, None, Some, if◌then◌else◌, bit_and, bit_or, bit_xor}
 use Rattle.std.specs.List.{range_with_len}
 use Rattle.byteorder.specs.Endian.{little_bytes}
 use Rattle.vm_word.specs.Arithmetic.{word_sum, word_difference, sign_extended, signed_less, shifted_left, shifted_right, shifted_right_signed, low_product, high_product, high_product_signed, high_product_mixed, quotient, quotient_signed, remainder, remainder_signed}

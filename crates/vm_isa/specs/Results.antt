@@ -1,5 +1,5 @@
 -- What opcodes make of words (RISC-V Unprivileged ISA 20191213, the section beside each).
-use Rattle.std.specs.Prelude.{ℕ, ◌+◌, ◌-◌, ◌%◌, ◌^◌, Bool, not, nat_eq, nat_lt, if◌then◌else◌, List, ◌++◌, take, drop, bit_and, bit_or, bit_xor}
+use Rattle.std.specs.Prelude.{ℕ, ◌+◌, ◌%◌, Bool, not, nat_eq, nat_lt, if◌then◌else◌, List, ◌++◌, take, drop, bit_and, bit_or, bit_xor}
 use Rattle.vm_word.specs.Word.{word_of_limbs}
 use Rattle.vm_word.specs.Arithmetic.{word_sum, word_difference, sign_extended, signed_less, shifted_left, shifted_right, shifted_right_signed, low_product, high_product, high_product_signed, high_product_mixed, quotient, quotient_signed, remainder, remainder_signed}
 

@@ -1,5 +1,4 @@
-use Rattle.std.proofs.Common.{◌≡◌, ◌+◌, ℕ, arith, ◌∙◌, ap, subst, sym, Bor}
-use Rattle.elf_image.specs.Loaded.{Loaded}
+use Rattle.std.proofs.Common.{◌≡◌, ◌+◌, ℕ, arith, ◌∙◌, subst, sym}
 use Rattle.rv_run.specs.Run.{Goes}
 use Rattle.rv_run.specs.State.{machine_of}
 use Rattle.rv_run.proofs.Runs.{goes_by_step}

@@ -1,7 +1,6 @@
-use Rattle.std.proofs.Common.{◌≡◌, ◌<◌, ◌/◌, ◌%◌, ◌+◌, ◌-◌, Some, None, List, ℕ, length, arith, get_or, sym, ap, ◌∙◌, rules}
+use Rattle.std.proofs.Common.{◌≡◌, ◌<◌, ◌/◌, ◌%◌, ◌+◌, ◌-◌, Some, length, arith, rules}
 use Rattle.std.proofs.Math.Path.{fun_ext}
 use Rattle.std.proofs.lemmas.Grind.{common_steps}
-use borrow.Rule.Slice.PartMut.{put_mid}
 use Rattle.rv_run.specs.Pages.{page_of}
 use Rattle.rv_run.proofs.PageLemmas.{byte_stored}
 use Rattle.rv_run.proofs.memory.Memory.put.Goals as goal

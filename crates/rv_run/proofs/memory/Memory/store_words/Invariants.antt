@@ -1,4 +1,4 @@
-use Rattle.std.proofs.Common.{◌≡◌, ℕ, ◌+◌, ◌*◌, drop}
+use Rattle.std.proofs.Common.{◌≡◌, ◌+◌, ◌*◌, drop}
 use Rattle.rv_run.specs.Memory.{with_words}
 use Rattle.rv_run.specs.Pages.{memory_of, IsOwned}
 use Rattle.rv_run.proofs.memory.Memory.store_words.Given as goal
