@@ -39,15 +39,17 @@ fn write(columns: &AluRow, row: &mut [Fe])
     requires { length row.old ≡ 40 }
     ensures { row.new ≡ row_of_alu columns.now }
 {
-    let f = *columns;
-    let r = f.regs;
-    let (i, b, c, o, a) = (r.imm, r.left, r.right, r.old, f.result);
-    let (t0, t1, t2) = (r.first, r.second, r.third);
+    let alu = *columns;
+    let regs = alu.regs;
+    let use_imm = regs.use_imm;
+    let (imm, left, right, old) = (regs.imm, regs.left, regs.right, regs.old);
+    let new = alu.result;
+    let (t0, t1, t2) = (regs.first, regs.second, regs.third);
     row.copy_from_slice(&[
-        r.pc, r.time, f.add, f.sub, f.xor, f.or, f.and, r.rd, r.rs1, r.rs2, r.use_imm, i.x0, i.x1,
-        i.x2, i.x3, b.x0, b.x1, b.x2, b.x3, c.x0, c.x1, c.x2, c.x3, o.x0, o.x1, o.x2, o.x3, a.x0,
-        a.x1, a.x2, a.x3, t0.before, t0.lo, t0.hi, t1.before, t1.lo, t1.hi, t2.before, t2.lo,
-        t2.hi,
+        regs.pc, regs.time, alu.add, alu.sub, alu.xor, alu.or, alu.and, regs.rd, regs.rs1,
+        regs.rs2, use_imm, imm.x0, imm.x1, imm.x2, imm.x3, left.x0, left.x1, left.x2, left.x3,
+        right.x0, right.x1, right.x2, right.x3, old.x0, old.x1, old.x2, old.x3, new.x0, new.x1,
+        new.x2, new.x3, t0.before, t0.lo, t0.hi, t1.before, t1.lo, t1.hi, t2.before, t2.lo, t2.hi,
     ]);
 }
 

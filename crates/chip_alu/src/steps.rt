@@ -53,85 +53,101 @@ fn access(register: u8, old: u32, new: u32, time: u32, before: u32) -> TimedAcce
 }
 
 /// The word that is in the written register.
-fn old_word(o: &Operation) -> u32 {
-    match o.rd {
-        6 => o.left,
-        7 if !o.use_imm => o.right,
+fn old_word(operation: &Operation) -> u32 {
+    match operation.rd {
+        6 => operation.left,
+        7 if !operation.use_imm => operation.right,
         _ => 0x0607_0809,
     }
 }
 
 /// When the written register was accessed before.
-fn last_access(o: &Operation, time: u32) -> u32
+fn last_access(operation: &Operation, time: u32) -> u32
     requires { time ≤ 70000 }
     ensures { result < time + 2 }
 {
-    match o.rd {
+    match operation.rd {
         6 => time,
-        7 if !o.use_imm => time + 1,
+        7 if !operation.use_imm => time + 1,
         _ => 0,
     }
 }
 
-fn instruction(o: &Operation) -> VmInstr
+fn instruction(operation: &Operation) -> VmInstr
     ensures { result ≡ record {
       pc = 4096;
-      op = o.now.op;
-      rd = o.now.rd;
+      op = operation.now.op;
+      rd = operation.now.rd;
       rs1 = 6;
-      rs2 = if o.now.use_imm then 0 else 7;
+      rs2 = if operation.now.use_imm then 0 else 7;
       write = true;
-      use_imm = o.now.use_imm;
-      imm = if o.now.use_imm then limbs_of o.now.right else limbs_of 0;
+      use_imm = operation.now.use_imm;
+      imm = if operation.now.use_imm then limbs_of operation.now.right else limbs_of 0;
       target = 0;
     } }
 {
     VmInstr {
         pc: 4096,
-        op: o.op,
-        rd: o.rd,
+        op: operation.op,
+        rd: operation.rd,
         rs1: 6,
-        rs2: if o.use_imm { 0 } else { 7 },
+        rs2: if operation.use_imm { 0 } else { 7 },
         write: true,
-        use_imm: o.use_imm,
-        imm: if o.use_imm { limbs(o.right) } else { limbs(0) },
+        use_imm: operation.use_imm,
+        imm: if operation.use_imm {
+            limbs(operation.right)
+        } else {
+            limbs(0)
+        },
         target: 0,
     }
 }
 
-fn of_registers(alloc: Global, time: u32, o: &Operation) -> Result<StepRecord, OutOfMemory>
-    requires form { o.now.use_imm ≡ false }
-    requires owned { is_from 1 5 o.now.op ≡ true }
-    requires register { o.now.rd < 32 }
+fn of_registers(alloc: Global, time: u32, operation: &Operation) -> Result<StepRecord, OutOfMemory>
+    requires form { operation.now.use_imm ≡ false }
+    requires owned { is_from 1 5 operation.now.op ≡ true }
+    requires register { operation.now.rd < 32 }
     requires time { (100 ≤ time) × (time ≤ 70000) }
-    ensures { IfOk result (λ done. (done.instr.op ≡ o.now.op) × Fillable 24 done) }
+    ensures { IfOk result (λ done. (done.instr.op ≡ operation.now.op) × Fillable 24 done) }
 {
-    let new = result(o.op, o.left, o.right);
+    let new = result(operation.op, operation.left, operation.right);
     let mut accesses = AccessList::new(alloc);
-    accesses.push(access(6, o.left, o.left, time, 90))?;
-    accesses.push(access(7, o.right, o.right, time + 1, 50))?;
-    accesses.push(access(o.rd, old_word(o), new, time + 2, last_access(o, time)))?;
+    accesses.push(access(6, operation.left, operation.left, time, 90))?;
+    accesses.push(access(7, operation.right, operation.right, time + 1, 50))?;
+    accesses.push(access(
+        operation.rd,
+        old_word(operation),
+        new,
+        time + 2,
+        last_access(operation, time),
+    ))?;
     Ok(StepRecord {
-        instr: instruction(o),
+        instr: instruction(operation),
         time,
         accesses,
         next: 4100,
     })
 }
 
-fn of_immediate(alloc: Global, time: u32, o: &Operation) -> Result<StepRecord, OutOfMemory>
-    requires form { o.now.use_imm ≡ true }
-    requires owned { is_from 1 5 o.now.op ≡ true }
-    requires register { o.now.rd < 32 }
+fn of_immediate(alloc: Global, time: u32, operation: &Operation) -> Result<StepRecord, OutOfMemory>
+    requires form { operation.now.use_imm ≡ true }
+    requires owned { is_from 1 5 operation.now.op ≡ true }
+    requires register { operation.now.rd < 32 }
     requires time { (100 ≤ time) × (time ≤ 70000) }
-    ensures { IfOk result (λ done. (done.instr.op ≡ o.now.op) × Fillable 24 done) }
+    ensures { IfOk result (λ done. (done.instr.op ≡ operation.now.op) × Fillable 24 done) }
 {
-    let new = result(o.op, o.left, o.right);
+    let new = result(operation.op, operation.left, operation.right);
     let mut accesses = AccessList::new(alloc);
-    accesses.push(access(6, o.left, o.left, time, 90))?;
-    accesses.push(access(o.rd, old_word(o), new, time + 2, last_access(o, time)))?;
+    accesses.push(access(6, operation.left, operation.left, time, 90))?;
+    accesses.push(access(
+        operation.rd,
+        old_word(operation),
+        new,
+        time + 2,
+        last_access(operation, time),
+    ))?;
     Ok(StepRecord {
-        instr: instruction(o),
+        instr: instruction(operation),
         time,
         accesses,
         next: 4100,
@@ -139,15 +155,15 @@ fn of_immediate(alloc: Global, time: u32, o: &Operation) -> Result<StepRecord, O
 }
 
 /// The step of an operation at the pc 4096 and this time. Both words were accessed before, at 90 and at 50.
-pub fn step(alloc: Global, time: u32, o: &Operation) -> Result<StepRecord, OutOfMemory>
-    requires owned { is_from 1 5 o.now.op ≡ true }
-    requires register { o.now.rd < 32 }
+pub fn step(alloc: Global, time: u32, operation: &Operation) -> Result<StepRecord, OutOfMemory>
+    requires owned { is_from 1 5 operation.now.op ≡ true }
+    requires register { operation.now.rd < 32 }
     requires time { (100 ≤ time) × (time ≤ 70000) }
-    ensures { IfOk result (λ done. (done.instr.op ≡ o.now.op) × Fillable 24 done) }
+    ensures { IfOk result (λ done. (done.instr.op ≡ operation.now.op) × Fillable 24 done) }
 {
-    if o.use_imm {
-        of_immediate(alloc, time, o)
+    if operation.use_imm {
+        of_immediate(alloc, time, operation)
     } else {
-        of_registers(alloc, time, o)
+        of_registers(alloc, time, operation)
     }
 }

@@ -197,7 +197,7 @@ fn is_right(alloc: Global, op: u8, left: u32, right: u32) -> Result<bool, OutOfM
 {
     let mut all = true;
     for (use_imm, rd) in [(false, 5), (false, 6), (false, 7), (true, 5), (true, 6)] {
-        let o = Operation {
+        let operation = Operation {
             op,
             left,
             right,
@@ -205,7 +205,7 @@ fn is_right(alloc: Global, op: u8, left: u32, right: u32) -> Result<bool, OutOfM
             rd,
         };
         let events = if use_imm { 15 } else { 19 };
-        let mut row = filled(&step(alloc, 70000, &o)?);
+        let mut row = filled(&step(alloc, 70000, &operation)?);
         all = all && is_good_row(alloc, &row, events)?;
         row[28] = row[28].add(Fe::ONE);
         all = all && !is_good_row(alloc, &row, events)?;
