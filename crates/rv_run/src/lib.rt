@@ -9,7 +9,6 @@ mod laws;
 mod memory;
 mod obstacles;
 mod outcome;
-mod results;
 mod state;
 
 use elf_image::Image;

@@ -29,7 +29,8 @@ impl<'a> Memory<'a> {
     ghost use Rattle.elf_image.specs.Loaded.{byte_of};
     ghost use Rattle.byteorder.specs.Endian.{little_bytes};
     ghost use Rattle.rv_run.specs.Memory.{number_at, with_bytes, with_words};
-    ghost use Rattle.rv_run.specs.Step.{store_width, words_at, bytes_at};
+    ghost use Rattle.rv_run.specs.Step.{words_at, bytes_at};
+    ghost use Rattle.vm_word.specs.Operations.{store_width};
     ghost use Rattle.rv_run.specs.Pages.{memory_of, IsOwned, KeepsOwned};
 
     /// The memory before anything is stored.

@@ -8,6 +8,7 @@ ghost use Rattle.vm_word.specs.Word.{bits_of, halves_of, limbs_of, signed_value,
 
 pub mod arithmetic;
 pub mod laws;
+pub mod operation;
 
 /// The bytes of a word, limb 0 the lowest.
 pub fn limbs(word: u32) -> [u8; 4]
