@@ -3,7 +3,6 @@
 
 mod both;
 mod chip;
-mod count;
 mod elements;
 mod event;
 mod extension;
@@ -19,14 +18,12 @@ mod path;
 mod reserved;
 mod single;
 mod sink;
-mod tables;
 #[cfg(test)]
 mod tests;
 mod tuple;
 
 pub use both::Both;
 pub use chip::Chip;
-pub use count::{CountEntry, CountList};
 pub use elements::element;
 pub use event::{Event, Side};
 pub use extension::Extension;
@@ -42,5 +39,4 @@ pub use reserved::Reserved;
 pub use single::Single;
 pub use sink::EventSink;
 pub use std::alloc::AllocError as OutOfMemory;
-pub use tables::Tables;
 pub use tuple::{MAX_TUPLE, Tuple};
