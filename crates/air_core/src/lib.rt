@@ -2,8 +2,10 @@
 #![tactic(auto)]
 
 mod both;
+pub mod bus;
 mod chip;
 mod elements;
+mod emission;
 mod event;
 mod extension;
 mod flags;
@@ -25,6 +27,7 @@ mod tuple;
 pub use both::Both;
 pub use chip::Chip;
 pub use elements::element;
+pub use emission::{emit, emit_path, emit_received, emit_sent};
 pub use event::{Event, Side};
 pub use extension::Extension;
 pub use flags::{flag_sum, flags_broken, opcode};
