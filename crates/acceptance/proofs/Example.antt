@@ -40,7 +40,7 @@ use Rattle.air_core.specs.System.{System, Part, EachRow, all_events}
 use Rattle.air_core.proofs.BalanceLemmas.{total-cons}
 use Rattle.exec_path.specs.PathEvents.{connector_events}
 use Rattle.page_tree.specs.Tree.{Leaves, root, node, replaced}
-use Rattle.page_tree.specs.Opening.{siblings_of, siblings_needed}
+use Rattle.page_tree.specs.Opening.{AreDigests, siblings_of, siblings_needed}
 use Rattle.page_tree.specs.Parts.{labels_of, old_bytes_at, new_bytes_at, AreRoots}
 use Rattle.page_tree.specs.Path.{path_of, path_from, beside, climb}
 use Rattle.page_tree.specs.Start.{start_map}
@@ -121,16 +121,20 @@ unfolding path_from
 path_digests m l i zero = tt
 path_digests m l i (suc n) = (length-sha256 (node m l (beside i)), path_digests m (suc l) (i / 2) n)
 
-zeros_are_bytes : (n : ℕ) → IsBytes (replicate n 0)
+pub zeros_are_bytes : (n : ℕ) → IsBytes (replicate n 0)
 zeros_are_bytes zero = tt
 zeros_are_bytes (suc n) = (omega arith, zeros_are_bytes n)
+
+pub path_digests_of : (m : Leaves) (label : ℕ) → AreDigests (path_of m label)
+unfolding path_of
+path_digests_of m label = All-from_recursion (λ d. length d ≡ 32) (path_from m 0 label 25) (path_digests m 0 label 25)
 
 no_public : (image : Loaded) → IsPublic (replicate 64 0) (path_of (start_map image) PUBLIC_LABEL) (root (start_map image))
 unfolding path_of
 no_public image = record {
   whole = record { size = refl; bytes = zeros_are_bytes 64 };
   levels = length-path_from (start_map image) 0 PUBLIC_LABEL 25;
-  digests = All-from_recursion (λ d. length d ≡ 32) (path_from (start_map image) 0 PUBLIC_LABEL 25) (path_digests (start_map image) 0 PUBLIC_LABEL 25);
+  digests = path_digests_of (start_map image) PUBLIC_LABEL;
   leads = subst (λ (leaf : List ℕ). climb PUBLIC_LABEL leaf (path_of (start_map image) PUBLIC_LABEL) ≡ root (start_map image))
       (start_map-out image PUBLIC_LABEL (λ e. omega (arith, e))) (climb-path_of (start_map image) PUBLIC_LABEL (omega arith));
 }
@@ -175,14 +179,14 @@ pub few_siblings : (m : Leaves) (labels : List ℕ) → IsNumber (length (siblin
 unfolding siblings_needed
 few_siblings m labels = omega (arith, length-siblings_of m labels, needed-le labels 25 0)
 
-root_canonical : (m : Leaves) → IsDigest (root m)
+pub root_canonical : (m : Leaves) → IsDigest (root m)
 unfolding root
 root_canonical m = hash_canonical (node m 25 0)
 
 no_entries : (end : ℕ) → IsCountList end []
 no_entries end = record { number = lit< tt; each = tt }
 
-path_levels : (m : Leaves) → length (path_of m PUBLIC_LABEL) ≡ 25
+pub path_levels : (m : Leaves) → length (path_of m PUBLIC_LABEL) ≡ 25
 unfolding path_of
 path_levels m = length-path_from m 0 PUBLIC_LABEL 25
 
@@ -329,7 +333,7 @@ codes_by : (version : ℕ) (b : Bool) → nat_eq version 1 ≡ b → 1 ≤ (limi
 codes_by version true is = rw is (lit≤ tt)
 codes_by version false is = rw is (lit≤ tt)
 
-few_rows : (image : Loaded) → 4 * length (program_of image) ≤ 2 ^ 32 + 3
+pub few_rows : (image : Loaded) → 4 * length (program_of image) ≤ 2 ^ 32 + 3
 few_rows image = omega (arith, rises_few 0 (program_of image) (omega arith) (program_rises image))
 
 pub stepping_accepted : SteppingFilesAreAccepted

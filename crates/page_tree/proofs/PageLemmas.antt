@@ -1,12 +1,12 @@
 -- The opening lemma at the root, said of pages.
-use Rattle.std.proofs.Common.{◌≡◌, ℕ, ◌+◌, ◌<◌, List, [], ◌∷◌, ◌++◌, length, take, get_or, slice_index, ap, sym, subst, ◌∙◌, inl, inr, ⊎_elim, arith}
+use Rattle.std.proofs.Common.{◌≡◌, ℕ, ◌+◌, ◌<◌, List, [], ◌∷◌, ◌++◌, length, take, get_or, slice_index, refl, ap, sym, subst, ◌∙◌, inl, inr, ⊎_elim, arith}
 use Rattle.std.specs.List.{All, Contains}
 use Rattle.std.specs.List.Sorted.{IsStrictlyIncreasing}
 use Rattle.std.proofs.lemmas.List.{map-append, take_more, length-map, get_or_default}
 use Rattle.std.proofs.lemmas.List.Elements.{Contains-get_or}
 use Rattle.page_tree.specs.Tree.{Leaves, root, IsNode, Collision}
-use Rattle.page_tree.specs.Opening.{AreDigests, AreLabels, OpensTree, IsComplete, opening_root, opening_nodes, siblings_needed}
-use Rattle.page_tree.specs.Parts.{label_of, labels_of, labelled_bytes, old_bytes_at, new_bytes_at, with_pages, PagesOpenOrCollide, IsOpenedBy, AreTreeRoots}
+use Rattle.page_tree.specs.Opening.{AreDigests, AreLabels, OpensTree, IsComplete, opening_root, opening_nodes, siblings_needed, siblings_of}
+use Rattle.page_tree.specs.Parts.{label_of, labels_of, labelled_bytes, old_bytes_at, new_bytes_at, with_pages, AreRoots, PagesOpenOrCollide, IsOpenedBy, AreTreeRoots}
 use Rattle.vm_trace.specs.declared.page.Touched.{Touched}
 use Rattle.page_tree.proofs.RootLemmas.{opens_tree}
 use Rattle.page_tree.proofs.CompleteLemmas.{is_complete}
@@ -65,3 +65,10 @@ opened_roots m pages siblings old new rising is_old is_new opened =
       old_root = is_old ∙ ap (opening_root (labels_of pages) (old_bytes_at pages)) opened.own ∙ whole.old_root;
       new_root = is_new ∙ ap (opening_root (labels_of pages) (new_bytes_at pages)) opened.own ∙ whole.new_root;
     }
+
+-- so it leads from the tree's root to the root of the tree with the new bytes
+pub own_roots : (m : Leaves) (pages : List Touched) → IsStrictlyIncreasing (labels_of pages) → All (λ p. p.old ≡ m p.label) pages → AreRoots pages (siblings_of m (labels_of pages)) (root m) (root (with_pages m pages))
+unfolding with_pages
+own_roots m pages rising matches =
+    let whole = opened_by m pages (siblings_of m (labels_of pages)) rising (record { matches = matches; own = refl }) in
+    record { number = whole.number; old_root = sym whole.old_root; new_root = sym whole.new_root }
