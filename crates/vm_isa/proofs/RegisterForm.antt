@@ -1,21 +1,92 @@
--- The meaning of the register form and of the immediate form, and the accesses of their steps.
-use Rattle.std.proofs.Common.{◌≡◌, ℕ, ◌*◌, Bool, true, false, ◌||◌, List, [], ◌∷◌, length, Some, map, refl, sym, ap, ◌∙◌, arith}
+-- The register form: what its opcodes are apart from, the meaning with a register's word and with an
+-- immediate, and the accesses of such steps.
+use Rattle.std.proofs.Common.{◌≤◌, nat_eq, ◌≡◌, ℕ, ◌*◌, Bool, true, false, ◌||◌, List, [], ◌∷◌, length, Some, map, refl, sym, ap, ◌∙◌, arith}
+use Rattle.std.proofs.lemmas.Bool.Decides.{nat_tests}
 use Rattle.vm_word.specs.Word.{word_of_limbs, limbs_of}
 use Rattle.vm_word.specs.Arithmetic.{word_sum}
 use Rattle.vm_isa.specs.declared.instr.VmInstr.{VmInstr}
 use Rattle.vm_isa.specs.declared.access.TimedAccess.{TimedAccess}
-use Rattle.vm_isa.specs.Opcodes.{is_alu, is_mul}
+use Rattle.vm_isa.specs.Opcodes.{is_from, is_alu, is_load, is_store, is_branch, is_mul, is_register, has_meaning, JAL, LUI, JALR, AUIPC, HINT, REVEAL, SHA, HINT_NEXT, ADD, SW, MUL, REMU}
+use Rattle.vm_isa.specs.Slots.{slots_of}
+use Rattle.vm_isa.specs.Spaces.{REGISTERS}
+use Rattle.vm_isa.specs.Instr.{InRange}
+use Rattle.vm_isa.specs.Results.{result}
 use Rattle.vm_isa.specs.Means.{Accessed, Meaning, means_of, is_refused, bars_first, bars_second, places_by, places_of, accessed_by, new_at, next_of, operand, word_at, imm_of, register, placed, placed_at}
 use Rattle.vm_isa.proofs.NextLaws.{meant}
-use Rattle.adapter_regs.specs.Laws.{is_register, result}
-use Rattle.adapter_regs.proofs.Opcodes.{Apart, apart}
+
+-- ---- the opcodes
+
+or_true : (b : Bool) → b || true ≡ true
+or_true true = refl
+or_true false = refl
+
+-- within narrower bounds is within wider ones
+pub wider : (a b c d op : ℕ) → c ≤ a → b ≤ d → is_from a b op ≡ true → is_from c d op ≡ true
+wider a b c d op low high h = grind (arith, nat_tests)
+
+pub alu_register : (op : ℕ) → is_alu op ≡ true → is_register op ≡ true
+alu_register op h = rw h refl
+
+pub mul_register : (op : ℕ) → is_mul op ≡ true → is_register op ≡ true
+mul_register op h = rw (h, or_true (is_alu op)) refl
+
+-- what no opcode of the form is
+pub record Apart (op : ℕ) : Type 0 where
+  pub meant : has_meaning op ≡ true
+  pub load : is_load op ≡ false
+  pub store : is_store op ≡ false
+  pub branch : is_branch op ≡ false
+  pub jal : nat_eq op JAL ≡ false
+  pub lui : nat_eq op LUI ≡ false
+  pub jalr : nat_eq op JALR ≡ false
+  pub auipc : nat_eq op AUIPC ≡ false
+  pub hint : nat_eq op HINT ≡ false
+  pub reveal : nat_eq op REVEAL ≡ false
+  pub sha : nat_eq op SHA ≡ false
+  pub next_input : nat_eq op HINT_NEXT ≡ false
+  pub three : slots_of op ≡ 3
+
+pub apart : (op : ℕ) → is_register op ≡ true → Apart op
+apart op h =
+    let low : is_from ADD SW op || (is_from MUL REMU op || nat_eq op REVEAL) ≡ true = grind (arith, nat_tests) in
+    record {
+      meant = grind (arith, nat_tests);
+      load = grind (arith, nat_tests);
+      store = grind (arith, nat_tests);
+      branch = grind (arith, nat_tests);
+      jal = grind (arith, nat_tests);
+      lui = grind (arith, nat_tests);
+      jalr = grind (arith, nat_tests);
+      auipc = grind (arith, nat_tests);
+      hint = grind (arith, nat_tests);
+      reveal = grind (arith, nat_tests);
+      sha = grind (arith, nat_tests);
+      next_input = grind (arith, nat_tests);
+      three = rw low refl;
+    }
+
+pub register_slots : (op : ℕ) → is_register op ≡ true → slots_of op ≡ 3
+register_slots op h = (apart op h).three
+
+-- their rows name a register to write, and no target
+named_by : (i : VmInstr) (is_one : Bool) → is_alu i.op ≡ is_one → InRange i → is_register i.op ≡ true → (i.write ≡ true) × (i.target ≡ 0)
+named_by i true e range h = range.alu e
+named_by i false e range h =
+    let mul : is_mul i.op ≡ true = rw e at h in
+    let named = range.mul mul in
+    (named.0, named.3)
+
+pub named : (i : VmInstr) → InRange i → is_register i.op ≡ true → (i.write ≡ true) × (i.target ≡ 0)
+named i range h = named_by i (is_alu i.op) refl range h
+
+-- ---- the meaning
 
 -- a register read, and a register written
 abbrev pub reads : ℕ → ℕ → List ℕ → Accessed
-reads slot register word = record { slot = slot; space = 1; pointer = 4 * register; old = word; new = word }
+reads slot register word = record { slot = slot; space = REGISTERS; pointer = 4 * register; old = word; new = word }
 
 abbrev pub writes : ℕ → ℕ → List ℕ → List ℕ → Accessed
-writes slot register old new = record { slot = slot; space = 1; pointer = 4 * register; old = old; new = new }
+writes slot register old new = record { slot = slot; space = REGISTERS; pointer = 4 * register; old = old; new = new }
 
 abbrev pub result_word : ℕ → List ℕ → List ℕ → List ℕ
 result_word op b c = limbs_of (result op (word_of_limbs b) (word_of_limbs c))
@@ -29,7 +100,7 @@ by_imm i b o = reads 0 i.rs1 b ∷ writes 2 i.rd o (result_word i.op b i.imm) �
 
 fits : (i : VmInstr) (olds : List (List ℕ)) → Apart i.op → is_refused i olds ≡ false
 unfolding is_refused bars_first bars_second
-fits i olds n = rw (n.opcode, n.load, n.store, n.jalr, n.hint, n.reveal, n.sha) refl
+fits i olds n = rw (n.meant, n.load, n.store, n.jalr, n.hint, n.reveal, n.sha) refl
 
 goes_on : (i : VmInstr) (olds : List (List ℕ)) → Apart i.op → next_of i olds ≡ word_sum i.pc 4
 unfolding next_of
@@ -44,27 +115,19 @@ unfolding places_by
 places_imm i b c h w = rw (h, w) refl
 
 -- a read keeps its word
-first_kept : (i : VmInstr) (olds : List (List ℕ)) (given old : List ℕ) (one other : Bool) → is_alu i.op ≡ one → is_mul i.op ≡ other → Apart i.op → new_at i olds given 0 old ≡ old
+first_kept : (i : VmInstr) (olds : List (List ℕ)) (given old : List ℕ) → is_register i.op ≡ true → new_at i olds given 0 old ≡ old
 unfolding new_at
-first_kept i olds given old true true e f n = rw (e, f, n.load, n.store, n.jal, n.lui, n.jalr, n.auipc, n.hint, n.reveal, n.sha) refl
-first_kept i olds given old true false e f n = rw (e, f, n.load, n.store, n.jal, n.lui, n.jalr, n.auipc, n.hint, n.reveal, n.sha) refl
-first_kept i olds given old false true e f n = rw (e, f, n.load, n.store, n.jal, n.lui, n.jalr, n.auipc, n.hint, n.reveal, n.sha) refl
-first_kept i olds given old false false e f n = rw (e, f, n.load, n.store, n.jal, n.lui, n.jalr, n.auipc, n.hint, n.reveal, n.sha) refl
+first_kept i olds given old h = let n = apart i.op h in rw (h, n.load, n.store, n.jal, n.lui, n.jalr, n.auipc, n.hint, n.reveal, n.sha) refl
 
-second_kept : (i : VmInstr) (olds : List (List ℕ)) (given old : List ℕ) (one other : Bool) → is_alu i.op ≡ one → is_mul i.op ≡ other → Apart i.op → new_at i olds given 1 old ≡ old
+second_kept : (i : VmInstr) (olds : List (List ℕ)) (given old : List ℕ) → is_register i.op ≡ true → new_at i olds given 1 old ≡ old
 unfolding new_at
-second_kept i olds given old true true e f n = rw (e, f, n.load, n.store, n.jal, n.lui, n.jalr, n.auipc, n.hint, n.reveal, n.sha) refl
-second_kept i olds given old true false e f n = rw (e, f, n.load, n.store, n.jal, n.lui, n.jalr, n.auipc, n.hint, n.reveal, n.sha) refl
-second_kept i olds given old false true e f n = rw (e, f, n.load, n.store, n.jal, n.lui, n.jalr, n.auipc, n.hint, n.reveal, n.sha) refl
-second_kept i olds given old false false e f n = rw (e, f, n.load, n.store, n.jal, n.lui, n.jalr, n.auipc, n.hint, n.reveal, n.sha) refl
+second_kept i olds given old h = let n = apart i.op h in rw (h, n.load, n.store, n.jal, n.lui, n.jalr, n.auipc, n.hint, n.reveal, n.sha) refl
 
 -- and the third access leaves the result
-written : (i : VmInstr) (olds : List (List ℕ)) (given old : List ℕ) (one other : Bool) → is_alu i.op ≡ one → is_mul i.op ≡ other → one || other ≡ true
+written : (i : VmInstr) (olds : List (List ℕ)) (given old : List ℕ) → is_register i.op ≡ true
     → new_at i olds given 2 old ≡ limbs_of (result i.op (word_at olds 0) (operand i (word_at olds 1)))
-unfolding new_at result
-written i olds given old true other e f h = rw e refl
-written i olds given old false true e f h = rw (e, f) refl
-written i olds given old false false e f h = absurd (cc)
+unfolding new_at
+written i olds given old h = rw h refl
 
 means_three : (i : VmInstr) (b c o given : List ℕ) (accesses : List Accessed) → is_refused i (b ∷ c ∷ o ∷ []) ≡ false
     → places_of i (b ∷ c ∷ o ∷ []) ≡ register 0 i.rs1 ∷ register 1 i.rs2 ∷ register 2 i.rd ∷ []
@@ -103,9 +166,9 @@ pub means_word : (i : VmInstr) (b c o given : List ℕ) → is_register i.op ≡
 means_word i b c o given h w =
     let olds : List (List ℕ) = b ∷ c ∷ o ∷ [] in
     let n = apart i.op h in
-    let new = written i olds given o (is_alu i.op) (is_mul i.op) refl refl h ∙ second_word i b c o w in
+    let new = written i olds given o h ∙ second_word i b c o w in
     means_three i b c o given (by_word i b c o) (fits i olds n) (places_word i (word_at olds 0) (word_at olds 1) h w)
-    (three (new_at i olds given) i b c o (result_word i.op b c) (first_kept i olds given b (is_alu i.op) (is_mul i.op) refl refl n) (second_kept i olds given c (is_alu i.op) (is_mul i.op) refl refl n) new)
+    (three (new_at i olds given) i b c o (result_word i.op b c) (first_kept i olds given b h) (second_kept i olds given c h) new)
     (goes_on i olds n)
 
 pub means_imm : (i : VmInstr) (b o given : List ℕ) → is_register i.op ≡ true → i.use_imm ≡ true
@@ -113,9 +176,9 @@ pub means_imm : (i : VmInstr) (b o given : List ℕ) → is_register i.op ≡ tr
 means_imm i b o given h w =
     let olds : List (List ℕ) = b ∷ o ∷ [] in
     let n = apart i.op h in
-    let new = written i olds given o (is_alu i.op) (is_mul i.op) refl refl h ∙ second_imm i b o w in
+    let new = written i olds given o h ∙ second_imm i b o w in
     means_two i b o given (by_imm i b o) (fits i olds n) (places_imm i (word_at olds 0) (word_at olds 1) h w)
-    (two (new_at i olds given) i b o (result_word i.op b i.imm) (first_kept i olds given b (is_alu i.op) (is_mul i.op) refl refl n) new)
+    (two (new_at i olds given) i b o (result_word i.op b i.imm) (first_kept i olds given b h) new)
     (goes_on i olds n)
 
 -- The accesses of a step.
