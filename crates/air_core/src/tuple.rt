@@ -1,7 +1,8 @@
 //! A list of at most fifty numbers that needs no memory.
 
-ghost use Rattle.std.specs.Prelude.{◌≡◌, ◌<◌, ◌≤◌, ◌↔◌, ◌==◌, [], IsTrue, length, slice_get};
+ghost use Rattle.std.specs.Prelude.{◌≡◌, ◌<◌, ◌≤◌, ◌↔◌, ◌==◌, [], IsTrue, length, slice_get, take};
 ghost use Rattle.std.proofs.Common.{rules};
+ghost use Rattle.air_core.specs.Padded.{padded};
 ghost use Rattle.std.specs.Cmp.{partial_order_from_own_ties};
 ghost use Rattle.std.specs.Cmp.Rules.{comparing, hashing};
 ghost use Rattle.std.specs.Hash as fed;
@@ -90,6 +91,14 @@ impl Tuple {
         } else {
             None
         }
+    }
+
+    /// The first eight numbers, and zeros where the tuple has none.
+    pub fn front(&self) -> [u32; 8]
+        ensures { result ≡ take 8 (padded self.now) }
+    {
+        let n = &self.numbers;
+        [n[0], n[1], n[2], n[3], n[4], n[5], n[6], n[7]]
     }
 
     pub fn as_slice(&self) -> &[u32]
