@@ -4,6 +4,7 @@
 ghost use Rattle.std.specs.Prelude.{◌≡◌, ◌≢◌, ◌+◌, ◌^◌, ◌<◌, ◌≤◌, ◌↔◌, List, [], ◌∷◌, Some, OnOk, OnErr, IsNone, IfSome, IsTrue, IsFalse, length};
 ghost use Rattle.air_core.specs.declared.event.Event.{Event as AnEvent};
 ghost use Rattle.air_core.specs.Balance.{Balanced};
+ghost use Rattle.air_core.specs.Sheet.{event};
 ghost use Rattle.air_core.specs.Sink.{Handed};
 ghost use Rattle.bus_core.specs.Sums.{Holds, room_of, sum_on, add_on};
 ghost use Rattle.bus_core.specs.Least.{IsBefore, IsLeastUnbalanced, lesser_of, least_uneven, unbalanced_at};
@@ -17,6 +18,7 @@ use indexmap::IndexMap;
 use short::ShortTuple;
 use std::alloc::Global;
 use std::marker::Model;
+use vm_field::Fe;
 
 /// A tuple that isn't sent on a bus as often as it is received there. Both sums are whole numbers.
 #[derive(Clone, Copy, Debug, PartialEq, Eq)]
@@ -67,6 +69,24 @@ impl EventSink for Balance {
     fn take(&mut self, event: &Event) -> Result<(), OutOfMemory> {
         self.add(event)
     }
+
+    fn take_parts(
+        &mut self,
+        bus: u8,
+        side: Side,
+        count: u32,
+        numbers: &[Fe],
+    ) -> Result<(), OutOfMemory> {
+        match ShortTuple::of_elements(numbers) {
+            Some(tuple) => self.add_short(bus, side, count, tuple),
+            None => self.add_long(&Event {
+                bus,
+                side,
+                tuple: Tuple::of_elements(numbers),
+                count,
+            }),
+        }
+    }
 }
 
 impl Balance {
@@ -87,18 +107,28 @@ impl Balance {
         ensures err { OnErr result (self.new ≡ self.old) }
     {
         match ShortTuple::of(&event.tuple) {
-            Some(tuple) => {
-                let place = Place {
-                    bus: event.bus,
-                    tuple,
-                };
-                let sums = self.short.entry(place)?.or_insert(NO_SUMS);
-                sums.add(event.side, event.count);
-                self.count += 1;
-                Ok(())
-            }
+            Some(tuple) => self.add_short(event.bus, event.side, event.count, tuple),
             None => self.add_long(event),
         }
+    }
+
+    fn add_short(
+        &mut self,
+        bus: u8,
+        side: Side,
+        count: u32,
+        tuple: ShortTuple,
+    ) -> Result<(), OutOfMemory>
+        requires room { 1 ≤ room_of self.old }
+        requires short { length tuple ≤ 8 }
+        ensures ok { OnOk result (Handed Holds room_of self.old self.new (event bus side count tuple ∷ [])) }
+        ensures err { OnErr result (self.new ≡ self.old) }
+    {
+        let place = Place { bus, tuple };
+        let sums = self.short.entry(place)?.or_insert(NO_SUMS);
+        sums.add(side, count);
+        self.count += 1;
+        Ok(())
     }
 
     // Apart from the others, so that they don't pay for the room of a long tuple.

@@ -9,6 +9,7 @@ ghost use Rattle.bus_core.specs.Short.{hashed, hashed_alike, quarter};
 use air_core::Tuple;
 use std::hash::{Hash, Hasher};
 use std::marker::Model;
+use vm_field::Fe;
 
 /// How many numbers a short tuple has at most.
 pub const MAX_SHORT: u32 = 8;
@@ -22,15 +23,16 @@ pub struct ShortTuple {
 
 impl Model for ShortTuple {
     ghost use Rattle.std.specs.Prelude.{◌≡◌, ◌≤◌, ℕ, List, length, take};
-    ghost use Rattle.bus_core.specs.Short.{padded8, fields_given_back};
+    ghost use Rattle.air_core.specs.Padded.{padded};
+    ghost use Rattle.bus_core.specs.Short.{fields_given_back};
 
     ghost Value = { List ℕ };
 
     ghost view = { λ t. take t.len t.numbers };
 
-    ghost invariant = { λ t. (t.len ≤ 8) × (t.numbers ≡ padded8 (take t.len t.numbers)) };
+    ghost invariant = { λ t. (t.len ≤ 8) × (t.numbers ≡ padded 8 (take t.len t.numbers)) };
 
-    ghost inverse = { λ list. record { numbers = padded8 list; len = length list } };
+    ghost inverse = { λ list. record { numbers = padded 8 list; len = length list } };
 
     ghost inverse_ok = { fields_given_back };
 }
@@ -47,6 +49,23 @@ impl ShortTuple {
         Some(ShortTuple {
             numbers: tuple.front(),
             len,
+        })
+    }
+
+    pub fn of_elements(elements: &[Fe]) -> Option<ShortTuple>
+        ensures short { IsSome result ↔ (length elements.now ≤ 8) }
+        ensures same { IfSome result (λ s. s ≡ elements.now) }
+    {
+        if elements.len() > MAX_SHORT as usize {
+            return None;
+        }
+        let mut numbers = [0; MAX_SHORT as usize];
+        for (i, element) in elements.iter().enumerate() {
+            numbers[i] = element.value();
+        }
+        Some(ShortTuple {
+            numbers,
+            len: elements.len() as u32,
         })
     }
 
