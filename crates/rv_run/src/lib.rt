@@ -4,6 +4,7 @@
 ghost use Rattle.std.specs.Prelude.{◌≡◌, IfOk};
 ghost use Rattle.rv_run.specs.Run.{IsRunEnd};
 
+mod code;
 mod hints;
 mod laws;
 mod memory;
