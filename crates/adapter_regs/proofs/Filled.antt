@@ -20,7 +20,7 @@ use Rattle.vm_field.proofs.LimbLemmas.{list_of-from}
 use Rattle.gadget_limbs.proofs.LimbsLaws.{bytes_below, byte_at, limbs_word}
 use Rattle.gadget_time.specs.Told.{gap_filled, MadeBy, MadeByAll, made}
 use Rattle.gadget_time.specs.Laws.{SaysRecord}
-use Rattle.gadget_time.proofs.Filled.{told_record, gap_below}
+use Rattle.gadget_time.specs.lemmas.Filled.{told_record, gap_below}
 use Rattle.adapter_regs.specs.declared.regs.Regs.{Regs}
 use Rattle.adapter_regs.specs.Regs.{regs_told, regs_touches, first_touch, second_touch, third_touch, regs_numbers, immediate_constraints, last_access, right_filled, second_filled, new_filled, regs_filled, regs_cells, time_cells, gap_cells}
 use Rattle.adapter_regs.specs.Laws.{is_register, result, RegsFilled, OthersFilled}

@@ -22,7 +22,7 @@ use Rattle.vm_field.proofs.LimbLemmas.{length-list_of}
 use Rattle.gadget_limbs.proofs.LimbsLaws.{limbs_of-word}
 use Rattle.gadget_time.specs.Told.{Told, told_lines, touched_of}
 use Rattle.gadget_time.specs.Laws.{CountsSmall, OffMachine}
-use Rattle.gadget_time.proofs.ToldLaws.{told_silent, told_step, good_program, told_no_hint, told_uses}
+use Rattle.gadget_time.specs.lemmas.ToldLaws.{told_silent, told_step, good_program, told_no_hint, told_uses}
 use Rattle.adapter_regs.specs.declared.regs.Regs.{Regs}
 use Rattle.adapter_regs.specs.Regs.{regs_told, regs_touches, first_touch, second_touch, third_touch, regs_numbers, immediate_constraints}
 use Rattle.adapter_regs.specs.Laws.{is_register, regs_lines, RegsResult, RegsHolds}

@@ -6,6 +6,8 @@ pub mod Totals
 pub mod First
 pub mod Flags
 pub mod Sheet
+pub mod Ring
+pub mod Formal
 pub mod Path
 pub mod Lookups
 pub mod Step
@@ -26,3 +28,4 @@ pub mod PartLemmas
 pub mod JoinLaws
 pub mod SingleLaws
 pub mod Contents
+pub mod lemmas

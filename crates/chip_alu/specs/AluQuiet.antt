@@ -13,7 +13,7 @@ use Rattle.air_core.specs.FlagLaws.{sum_none}
 use Rattle.vm_field.specs.Limbs.{limbs_at, list_of}
 use Rattle.gadget_limbs.specs.Sum.{sum_constraints, carry_out, gated_bit}
 use Rattle.gadget_time.specs.Told.{time_constraint, touch_constraint, touch_lines}
-use Rattle.gadget_time.proofs.ToldLaws.{may_look}
+use Rattle.gadget_time.specs.lemmas.ToldLaws.{may_look}
 use Rattle.adapter_regs.specs.Regs.{regs_at, gap_at, immediate_constraints, first_touch, second_touch, third_touch}
 use Rattle.adapter_regs.proofs.Opcodes.{three_slots}
 use Rattle.adapter_regs.proofs.Sound.{regs_uses}

@@ -17,7 +17,7 @@ use Rattle.air_core.specs.SoundLaws.{timed_of_sound}
 use Rattle.vm_field.specs.Limbs.{list_of, LimbsBelow}
 use Rattle.gadget_limbs.specs.Sum.{sum_constraints}
 use Rattle.gadget_limbs.proofs.LimbsLaws.{limbs_at_below}
-use Rattle.gadget_time.proofs.ToldLaws.{good_others}
+use Rattle.gadget_time.specs.lemmas.ToldLaws.{good_others}
 use Rattle.adapter_regs.specs.Regs.{regs_at, immediate_constraints, time_constraints}
 use Rattle.adapter_regs.specs.Laws.{is_register, RegsResult}
 use Rattle.adapter_regs.proofs.Sound.{regs_sound, regs_silent, regs_no_hint}
