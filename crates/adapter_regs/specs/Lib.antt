@@ -1,2 +1,4 @@
 pub mod Regs
-pub mod Laws
+pub mod Results
+pub mod Core
+pub mod lemmas

@@ -124,6 +124,8 @@ fn put_flags(row: &mut [Fe], end: usize, place: usize)
 
 /// Writes the columns behind the flags.
 fn put_rest<T: TableForm>(done: &StepRecord, row: &mut [Fe])
+    requires pc_low { done.now.instr.pc < modulus }
+    requires time_low { done.now.time < modulus }
     requires wide { length row.old ≡ 2 + length T.form.opcodes + T.form.width }
     requires owned { owns_of T.form done.now.instr.op ≡ true }
     ensures { row.new ≡ take (2 + length T.form.opcodes) row.old ++ T.form.filled done.now }

@@ -1,6 +1,7 @@
 //! What an instruction table has of its own: all else is the same for each.
 
 ghost use Rattle.std.specs.Prelude.{◌≡◌, ℕ, ◌+◌, ◌*◌, ◌^◌, ◌<◌, ◌≤◌, ◌∷◌, true, List, length, map, MatchOption, OnOk, OnErr};
+ghost use Rattle.vm_field.specs.Field.{modulus};
 ghost use Rattle.air_core.specs.First.{first_from};
 ghost use Rattle.air_core.specs.Flags.{weighted_from};
 ghost use Rattle.air_core.specs.Hint.{NoHint, IsHint};
@@ -113,11 +114,15 @@ pub trait TableForm {
 
     /// The place of the flag that a record sets.
     fn place(done: &StepRecord) -> usize
-        requires { owns_of form done.now.instr.op ≡ true }
+        requires pc_low { done.now.instr.pc < modulus }
+        requires time_low { done.now.time < modulus }
+        requires owned { owns_of form done.now.instr.op ≡ true }
         ensures { result ≡ form.place done.now };
 
     /// Writes the columns behind the flags.
     fn fill(done: &StepRecord, rest: &mut [Fe])
+        requires pc_low { done.now.instr.pc < modulus }
+        requires time_low { done.now.time < modulus }
         requires long { length rest.old ≡ form.width }
         requires owned { owns_of form done.now.instr.op ≡ true }
         ensures { rest.new ≡ form.filled done.now };

@@ -34,7 +34,7 @@ pub cells_of_zeros : (m i n : ℕ) → cells (slice_index (replicate m 0)) i n �
 cells_of_zeros m i zero = refl
 cells_of_zeros m i (suc n) = rw (index_zeros m i, cells_of_zeros m (suc i) n) refl
 
-behind : (xs ys : List ℕ) (n i : ℕ) → length xs ≡ n → slice_index (xs ++ ys) (n + i) ≡ slice_index ys i
+pub behind : (xs ys : List ℕ) (n i : ℕ) → length xs ≡ n → slice_index (xs ++ ys) (n + i) ≡ slice_index ys i
 behind [] ys n i h = ap (slice_index ys) (omega arith)
 behind (x ∷ xs) ys zero i h = absurd (omega arith)
 behind (x ∷ xs) ys (suc n) i h = let e : suc n + i ≡ suc (n + i) = omega arith in ap (slice_index (x ∷ xs ++ ys)) e ∙ behind xs ys n i (omega arith)

@@ -1,11 +1,11 @@
 -- The opcodes of the register form, apart from the others.
-use Rattle.std.proofs.Common.{◌≡◌, ℕ, Bool, true, false, ◌||◌, nat_eq, refl, arith}
+use Rattle.std.proofs.Common.{◌≡◌, ◌<◌, ℕ, Bool, true, false, ◌||◌, nat_eq, refl, arith}
 use Rattle.std.proofs.lemmas.Bool.Decides.{nat_tests}
 use Rattle.vm_isa.specs.declared.instr.VmInstr.{VmInstr}
 use Rattle.vm_isa.specs.Opcodes.{is_from, is_alu, is_load, is_store, is_branch, is_mul}
 use Rattle.vm_isa.specs.Slots.{slots_of}
 use Rattle.vm_isa.specs.Instr.{InRange}
-use Rattle.adapter_regs.specs.Laws.{is_register}
+use Rattle.adapter_regs.specs.Results.{is_register}
 
 pub record Apart (op : ℕ) : Type 0 where
   pub opcode : is_from 1 40 op ≡ true
@@ -53,3 +53,6 @@ named_by i false e range h =
 
 pub named : (i : VmInstr) → InRange i → is_register i.op ≡ true → (i.write ≡ true) × (i.target ≡ 0)
 named i range h = named_by i (is_alu i.op) refl range h
+
+pub register_low : (op : ℕ) → is_register op ≡ true → op < 2013265921
+register_low op h = grind (arith, nat_tests)

@@ -12,6 +12,7 @@ use Rattle.vm_isa.specs.Instr.{InRange, numbers_of}
 use Rattle.vm_isa.specs.Means.{Fillable, Placed, placed, placed_at}
 use Rattle.air_core.specs.declared.event.Event.{Event}
 use Rattle.air_core.specs.First.{gated_difference}
+use Rattle.air_core.specs.Ring.{field}
 use Rattle.air_core.specs.Sheet.{AllZero, AllBelow}
 use Rattle.air_core.specs.ListLemmas.{all_append}
 use Rattle.vm_field.specs.declared.limbs.Limbs.{Limbs}
@@ -19,18 +20,27 @@ use Rattle.vm_field.specs.Limbs.{list_of, limbs_from}
 use Rattle.vm_field.proofs.LimbLemmas.{list_of-from}
 use Rattle.gadget_limbs.proofs.LimbsLaws.{bytes_below, byte_at, limbs_word}
 use Rattle.gadget_time.specs.Told.{gap_filled, MadeBy, MadeByAll, made}
-use Rattle.gadget_time.specs.Laws.{SaysRecord}
-use Rattle.gadget_time.specs.lemmas.Filled.{told_record, gap_below}
+use Rattle.gadget_time.specs.lemmas.Filled.{gap_below}
 use Rattle.adapter_regs.specs.declared.regs.Regs.{Regs}
-use Rattle.adapter_regs.specs.Regs.{regs_told, regs_touches, first_touch, second_touch, third_touch, regs_numbers, immediate_constraints, last_access, right_filled, second_filled, new_filled, regs_filled, regs_cells, time_cells, gap_cells}
-use Rattle.adapter_regs.specs.Laws.{is_register, result, RegsFilled, OthersFilled}
-use Rattle.adapter_regs.proofs.Opcodes.{three_slots, named}
-use Rattle.adapter_regs.proofs.Meaning.{writes, result_word, WordShape, ImmShape, word_shape, imm_shape}
+use Rattle.adapter_regs.specs.Regs.{regs_touches, first_touch, second_touch, third_touch, regs_numbers, immediate_constraints, last_access, right_filled, second_filled, new_filled, regs_filled, regs_cells, time_cells, gap_cells}
+use Rattle.adapter_regs.specs.Results.{is_register, result}
+use Rattle.adapter_regs.specs.Core.{IsResultOf}
+use Rattle.adapter_regs.specs.lemmas.Opcodes.{three_slots, named}
+use Rattle.adapter_regs.specs.lemmas.Meaning.{writes, result_word, WordShape, ImmShape, word_shape, imm_shape}
+
+-- What columns are that were filled from a record of an opcode of the form.
+pub record RegsFilled (op : ℕ) (r : Regs ℕ) (new : Limbs ℕ) : Type 0 where
+  pub immediates : AllZero (immediate_constraints field r)
+  pub left : IsBytes (list_of r.left)
+  pub right : IsBytes (list_of r.right)
+  pub word : IsResultOf op r.left r.right new
+  pub cells : AllBelow (regs_cells true r)
+  pub gaps : AllBelow (time_cells r)
 
 -- The columns, form by form.
 
 -- the columns of the register form, of three accesses
-abbrev columns_word : StepRecord → TimedAccess → TimedAccess → TimedAccess → Regs
+abbrev columns_word : StepRecord → TimedAccess → TimedAccess → TimedAccess → Regs ℕ
 columns_word done a b c = record {
   pc = done.instr.pc;
   time = done.time;
@@ -48,7 +58,7 @@ columns_word done a b c = record {
 }
 
 -- and of the immediate form, of two
-abbrev columns_imm : StepRecord → TimedAccess → TimedAccess → Regs
+abbrev columns_imm : StepRecord → TimedAccess → TimedAccess → Regs ℕ
 columns_imm done a c = record {
   pc = done.instr.pc;
   time = done.time;
@@ -73,20 +83,20 @@ filled_imm : (done : StepRecord) (a c : TimedAccess) → done.instr.use_imm ≡ 
 unfolding regs_filled new_filled right_filled second_filled last_access
 filled_imm done a c word are = (rw (word, are) refl, rw (word, are) refl)
 
-immediates_word : (done : StepRecord) (a b c : TimedAccess) → AllZero (immediate_constraints (columns_word done a b c))
+immediates_word : (done : StepRecord) (a b c : TimedAccess) → AllZero (immediate_constraints field (columns_word done a b c))
 unfolding immediate_constraints gated_difference
 immediates_word done a b c = (omega arith, (omega arith, (omega arith, (omega arith, tt))))
 
-difference_none : (u x : ℕ) → x < modulus → gated_difference u x x ≡ 0
+difference_none : (u x : ℕ) → x < modulus → gated_difference field u x x ≡ 0
 unfolding gated_difference
 difference_none u x h = let none : field_sub x x ≡ 0 = omega arith in rw none (omega arith)
 
-immediates_imm : (done : StepRecord) (a c : TimedAccess) → IsBytes done.instr.imm → AllZero (immediate_constraints (columns_imm done a c))
+immediates_imm : (done : StepRecord) (a c : TimedAccess) → IsBytes done.instr.imm → AllZero (immediate_constraints field (columns_imm done a c))
 unfolding immediate_constraints limbs_from
 immediates_imm done a c h =
     (difference_none 1 _ (omega (arith, byte_at done.instr.imm 0 h)), (difference_none 1 _ (omega (arith, byte_at done.instr.imm 1 h)), (difference_none 1 _ (omega (arith, byte_at done.instr.imm 2 h)), (difference_none 1 _ (omega (arith, byte_at done.instr.imm 3 h)), tt))))
 
-cells_below : (r : Regs) → r.rd < 32 → r.rs1 < 32 → r.rs2 < 32 → r.use_imm ≤ 1 → IsBytes (list_of r.imm) → IsBytes (list_of r.left) → IsBytes (list_of r.right) → IsBytes (list_of r.old) → AllBelow (regs_cells r)
+cells_below : (r : Regs ℕ) → r.rd < 32 → r.rs1 < 32 → r.rs2 < 32 → r.use_imm ≤ 1 → IsBytes (list_of r.imm) → IsBytes (list_of r.left) → IsBytes (list_of r.right) → IsBytes (list_of r.old) → AllBelow (regs_cells true r)
 unfolding regs_cells
 cells_below r d s t u i b c o = (
   omega arith,
@@ -104,7 +114,7 @@ cells_below r d s t u i b c o = (
   ),
 )
 
-times_below : (r : Regs) → AllBelow (gap_cells r.first) → AllBelow (gap_cells r.second) → AllBelow (gap_cells r.third) → AllBelow (time_cells r)
+times_below : (r : Regs ℕ) → AllBelow (gap_cells r.first) → AllBelow (gap_cells r.second) → AllBelow (gap_cells r.third) → AllBelow (time_cells r)
 unfolding time_cells
 times_below r a b c =
     all_append (λ x. x < modulus) (gap_cells r.first) (gap_cells r.second ++ gap_cells r.third) a (all_append (λ x. x < modulus) (gap_cells r.second) (gap_cells r.third) b c)
@@ -140,7 +150,7 @@ found hi time slot number a new e top ends small before =
       low = omega arith;
     }
 
-made_by : (hi time slot number count : ℕ) (a : TimedAccess) (old new : Limbs) (written : List ℕ) → count ≡ 1 → number < 32 → list_of old ≡ a.access.old → list_of new ≡ written → Found hi time slot number a written
+made_by : (hi time slot number count : ℕ) (a : TimedAccess) (old new : Limbs ℕ) (written : List ℕ) → count ≡ 1 → number < 32 → list_of old ≡ a.access.old → list_of new ≡ written → Found hi time slot number a written
     → MadeBy hi time (record { count = count; slot = slot; space = 1; pointer = field_mul 4 number; old = old; new = new; gap = gap_filled a.time a.before }) a
 made_by hi time slot number count a old new written one small o w f =
     let p = f.pointer in
@@ -157,25 +167,25 @@ made_by hi time slot number count a old new written one small o w f =
     }
 
 -- What a table is given of the columns, and what their accesses are.
-record Columns (hi : ℕ) (done : StepRecord) (r : Regs) (new : Limbs) : Type 0 where
-  own : RegsFilled done.instr.op r new
-  sources : List (Option TimedAccess)
-  made_of : MadeByAll hi done.time (regs_touches r 1 new) sources
-  accesses : made sources ≡ done.accesses
-  next : done.next ≡ word_sum done.instr.pc 4
+pub record FilledColumns (hi : ℕ) (done : StepRecord) (r : Regs ℕ) (new : Limbs ℕ) : Type 0 where
+  pub own : RegsFilled done.instr.op r new
+  pub sources : List (Option TimedAccess)
+  pub made_of : MadeByAll hi done.time (regs_touches field r 1 new) sources
+  pub accesses : made sources ≡ done.accesses
+  pub next : done.next ≡ word_sum done.instr.pc 4
 
-made_word : (hi : ℕ) (done : StepRecord) (a b c : TimedAccess) (new : Limbs)
-    → MadeBy hi done.time (first_touch (columns_word done a b c) 1) a → MadeBy hi done.time (second_touch (columns_word done a b c) 1) b → MadeBy hi done.time (third_touch (columns_word done a b c) 1 new) c
-    → MadeByAll hi done.time (regs_touches (columns_word done a b c) 1 new) (Some a ∷ Some b ∷ Some c ∷ [])
+made_word : (hi : ℕ) (done : StepRecord) (a b c : TimedAccess) (new : Limbs ℕ)
+    → MadeBy hi done.time (first_touch field (columns_word done a b c) 1) a → MadeBy hi done.time (second_touch field (columns_word done a b c) 1) b → MadeBy hi done.time (third_touch field (columns_word done a b c) 1 new) c
+    → MadeByAll hi done.time (regs_touches field (columns_word done a b c) 1 new) (Some a ∷ Some b ∷ Some c ∷ [])
 made_word hi done a b c new p q r = (p, (q, (r, tt)))
 
-second_none : (done : StepRecord) (a c : TimedAccess) → (second_touch (columns_imm done a c) 1).count ≡ 0
+second_none : (done : StepRecord) (a c : TimedAccess) → (second_touch field (columns_imm done a c) 1).count ≡ 0
 unfolding second_touch
 second_none done a c = refl
 
 -- of the register form
 columns_of_word : (hi : ℕ) (done : StepRecord) → hi ≤ 13 → done.time + 3 ≤ 2 ^ (16 + hi) → Fillable (16 + hi) done → (s : WordShape done.instr done.time done.next done.accesses)
-    → Columns hi done (columns_word done s.a s.b s.c) (limbs_from s.c.access.new)
+    → FilledColumns hi done (columns_word done s.a s.b s.c) (limbs_from s.c.access.new)
 unfolding first_touch second_touch third_touch
 columns_of_word hi done top ends f s =
     let words = subst (AllByRecursion (λ (x : TimedAccess). IsWord x.access.old)) s.are f.words in
@@ -196,8 +206,7 @@ columns_of_word hi done top ends f s =
         immediates = immediates_word done s.a s.b s.c;
         left = bytes_of s.a.access.old words.0;
         right = bytes_of s.b.access.old words.1.0;
-        new_bytes = bytes_of s.c.access.new new_word;
-        result_is = back_c ∙ r.new_is ∙ rw (back_a, back_b) refl;
+        word = record { bytes = bytes_of s.c.access.new new_word; is = back_c ∙ r.new_is ∙ rw (back_a, back_b) refl };
         cells = cells_below (columns_word done s.a s.b s.c) range.rd range.rs1 range.rs2 (omega arith) (bytes_of done.instr.imm range.imm) (bytes_of s.a.access.old words.0) (bytes_of s.b.access.old words.1.0) (bytes_of s.c.access.old words.1.1.0);
         gaps = times_below (columns_word done s.a s.b s.c) (gap_below s.a.time s.a.before p.low) (gap_below s.b.time s.b.before q.low) (gap_below s.c.time s.c.before r.low);
       };
@@ -212,7 +221,7 @@ columns_of_word hi done top ends f s =
 
 -- of the immediate form
 columns_of_imm : (hi : ℕ) (done : StepRecord) → hi ≤ 13 → done.time + 3 ≤ 2 ^ (16 + hi) → Fillable (16 + hi) done → (s : ImmShape done.instr done.time done.next done.accesses)
-    → Columns hi done (columns_imm done s.a s.c) (limbs_from s.c.access.new)
+    → FilledColumns hi done (columns_imm done s.a s.c) (limbs_from s.c.access.new)
 unfolding first_touch third_touch
 columns_of_imm hi done top ends f s =
     let words = subst (AllByRecursion (λ (x : TimedAccess). IsWord x.access.old)) s.are f.words in
@@ -231,8 +240,7 @@ columns_of_imm hi done top ends f s =
         immediates = immediates_imm done s.a s.c range.imm.bytes;
         left = bytes_of s.a.access.old words.0;
         right = bytes_of done.instr.imm range.imm;
-        new_bytes = bytes_of s.c.access.new new_word;
-        result_is = back_c ∙ r.new_is ∙ rw (back_a, back_i) refl;
+        word = record { bytes = bytes_of s.c.access.new new_word; is = back_c ∙ r.new_is ∙ rw (back_a, back_i) refl };
         cells = cells_below (columns_imm done s.a s.c) range.rd range.rs1 range.rs2 (omega arith) (bytes_of done.instr.imm range.imm) (bytes_of s.a.access.old words.0) (bytes_of done.instr.imm range.imm) (bytes_of s.c.access.old words.1.0);
         gaps = times_below (columns_imm done s.a s.c) (gap_below s.a.time s.a.before p.low) (lit< tt, (lit< tt, (lit< tt, tt))) (gap_below s.c.time s.c.before r.low);
       };
@@ -248,8 +256,8 @@ columns_of_imm hi done top ends f s =
       next = s.next_is;
     }
 
-columns : (hi : ℕ) (done : StepRecord) → hi ≤ 13 → Fillable (16 + hi) done → is_register done.instr.op ≡ true → Columns hi done (regs_filled done) (new_filled done)
-columns hi done top f register =
+pub columns_filled : (hi : ℕ) (done : StepRecord) → hi ≤ 13 → Fillable (16 + hi) done → is_register done.instr.op ≡ true → FilledColumns hi done (regs_filled done) (new_filled done)
+columns_filled hi done top f register =
     let ends : done.time + 3 ≤ 2 ^ (16 + hi) = omega (arith, f.ends, three_slots done.instr.op register) in
     ⊎_elim
     (λ (word : done.instr.use_imm ≡ true).
@@ -262,39 +270,9 @@ columns hi done top f register =
     rw (e.0, e.1) (columns_of_word hi done top ends f s))
     (cases_Bool done.instr.use_imm)
 
--- The two laws.
-
-pub regs_filled_holds : (hi : ℕ) (done : StepRecord) → hi ≤ 13 → Fillable (16 + hi) done → is_register done.instr.op ≡ true → RegsFilled done.instr.op (regs_filled done) (new_filled done)
-regs_filled_holds hi done top f register = (columns hi done top f register).own
-
-is_instruction : (done : StepRecord) → InRange done.instr → is_register done.instr.op ≡ true → regs_numbers (regs_filled done) done.instr.op ≡ numbers_of done.instr
+pub is_instruction : (done : StepRecord) → InRange done.instr → is_register done.instr.op ≡ true → done.instr.pc ∷ done.instr.op ∷ regs_numbers field (regs_filled done) ≡ numbers_of done.instr
 unfolding regs_numbers regs_filled numbers_of limbs_from
 is_instruction done range register = let is = named done.instr range register in rw (is.0, is.1) refl
 
-filled_pc : (done : StepRecord) → ((regs_filled done).pc ≡ done.instr.pc) × ((regs_filled done).time ≡ done.time)
-unfolding regs_filled
-filled_pc done = (refl, refl)
-
-goes_on : (x pc next : ℕ) → x ≡ pc → pc < 2 ^ 29 → next ≡ word_sum pc 4 → field_add x 4 ≡ next
-goes_on x pc next e low n = omega arith
-
-pub regs_say_record : (hi : ℕ) (done : StepRecord) (others : List Event) → hi ≤ 13 → Fillable (16 + hi) done → is_register done.instr.op ≡ true → OthersFilled others
-    → SaysRecord hi done (regs_told (regs_filled done) 1 done.instr.op (new_filled done) others)
-regs_say_record hi done others top f register good =
-    let c = columns hi done top f register in
-    let at = filled_pc done in
-    told_record hi done (regs_told (regs_filled done) 1 done.instr.op (new_filled done) others) c.sources top (record {
-      valid = refl;
-      pc = at.0;
-      time = at.1;
-      next = goes_on (regs_filled done).pc done.instr.pc done.next at.0 f.in_range.low c.next;
-      slots = sym (three_slots done.instr.op register);
-      ends = f.ends;
-      in_range = f.in_range;
-      numbers = is_instruction done f.in_range register;
-      made_by = subst (λ (t : ℕ). MadeByAll hi t (regs_touches (regs_filled done) 1 (new_filled done)) c.sources) (sym at.1) c.made_of;
-      accesses = c.accesses;
-      off = good.off;
-      others_small = good.small;
-      others_good = good.good;
-    })
+pub goes_on : (pc next : ℕ) → pc < 2 ^ 29 → next ≡ word_sum pc 4 → field_add pc 4 ≡ next
+goes_on pc next low n = omega arith

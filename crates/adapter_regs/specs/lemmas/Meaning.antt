@@ -7,8 +7,8 @@ use Rattle.vm_isa.specs.declared.access.TimedAccess.{TimedAccess}
 use Rattle.vm_isa.specs.Opcodes.{is_alu, is_mul}
 use Rattle.vm_isa.specs.Means.{Accessed, Meaning, means_of, is_refused, bars_first, bars_second, places_by, places_of, accessed_by, new_at, next_of, operand, word_at, imm_of, register, placed, placed_at}
 use Rattle.vm_isa.proofs.NextLaws.{meant}
-use Rattle.adapter_regs.specs.Laws.{is_register, result}
-use Rattle.adapter_regs.proofs.Opcodes.{Apart, apart}
+use Rattle.adapter_regs.specs.Results.{is_register, result}
+use Rattle.adapter_regs.specs.lemmas.Opcodes.{Apart, apart}
 
 -- a register read, and a register written
 abbrev pub reads : ℕ → ℕ → List ℕ → Accessed

@@ -1,0 +1,5 @@
+pub mod Opcodes
+pub mod Meaning
+pub mod Sound
+pub mod Filled
+pub mod Form
