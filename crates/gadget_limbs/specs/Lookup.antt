@@ -1,6 +1,9 @@
 -- What is looked up in the xor table of one limb of a result. A sum or a difference looks up its own limb
 -- twice, so that it is a byte; a bitwise operation looks up the limbs of its words, and their xor by the result.
 use Rattle.std.specs.Prelude.{ℕ, List, [], ◌∷◌}
+use Rattle.vm_field.specs.declared.limbs.Limbs.{Limbs}
+use Rattle.air_core.specs.declared.bus.TheConstants.{XOR}
+use Rattle.air_core.specs.declared.event.Side.TheVariants.{Send}
 use Rattle.air_core.specs.Ring.{Ring}
 use Rattle.gadget_limbs.specs.declared.lookup.OperationFlags.{OperationFlags}
 
@@ -17,3 +20,10 @@ mixed o xor or and a b c =
 -- of the limb a, where b and c are those of the two words
 unfoldable pub looked_up : {A E : Type 0} → Ring A E → OperationFlags A → A → A → A → List A
 looked_up o f a b c = choose o f.valid f.sums a b ∷ choose o f.valid f.sums a c ∷ mixed o f.xor f.or f.and a b c ∷ []
+
+-- the lookups of the limbs of a word
+abbrev pub lookup_line : {A E : Type 0} → Ring A E → OperationFlags A → A → A → A → E
+lookup_line o f a b c = o.event XOR Send f.valid (looked_up o f a b c)
+
+abbrev pub lookup_lines : {A E : Type 0} → Ring A E → OperationFlags A → Limbs A → Limbs A → Limbs A → List E
+lookup_lines o f a b c = lookup_line o f a.x0 b.x0 c.x0 ∷ lookup_line o f a.x1 b.x1 c.x1 ∷ lookup_line o f a.x2 b.x2 c.x2 ∷ lookup_line o f a.x3 b.x3 c.x3 ∷ []

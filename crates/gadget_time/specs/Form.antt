@@ -1,9 +1,11 @@
 -- An instruction table of any form: what its rows tell, and its sheet. The first columns are pc, the time
 -- and the flags; the others are the form's own.
-use Rattle.std.specs.Prelude.{ℕ, suc, ◌+◌, Bool, nat_eq, List, [], ◌∷◌, ◌++◌, length, map, replicate, slice_index}
+use Rattle.std.specs.Prelude.{◌≡◌, ℕ, suc, ◌+◌, Bool, nat_eq, List, [], ◌∷◌, ◌++◌, length, map, replicate, slice_index}
 use Rattle.std.specs.List.{list_any}
 use Rattle.vm_isa.specs.declared.record.StepRecord.{StepRecord}
 use Rattle.air_core.specs.declared.event.Event.{Event}
+use Rattle.air_core.specs.Formal.{Expression, Interaction, formal, value, event_at}
+use Rattle.air_core.specs.Formal.Expression.{column}
 use Rattle.air_core.specs.Ring.{Ring, field, cells}
 use Rattle.air_core.specs.Sheet.{Sheet}
 use Rattle.air_core.specs.Flags.{flag_constraints, sum_from, weighted_from, one_hot}
@@ -107,3 +109,9 @@ form_sheet f hi = record {
   lines = λ row. told_lines field hi (told_by f (columns f row));
   filled = λ done place. row_of (filled_columns f done);
 }
+
+-- The same of expressions over the columns: at every row they have the values of the sheet.
+pub record IsFormal (f : Form) (parts : Parts Expression Interaction) : Type 0 where
+  pub constraints : (row : List ℕ) → map (value row) (form_constraints formal parts (columns_by (length f.opcodes) f.width column)) ≡ form_constraints field f.parts (columns f row)
+  pub lines : (hi : ℕ) (row : List ℕ)
+      → map (event_at row) (told_lines formal hi (form_told formal f.slots f.opcodes parts (columns_by (length f.opcodes) f.width column))) ≡ told_lines field hi (told_by f (columns f row))
