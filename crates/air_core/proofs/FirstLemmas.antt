@@ -49,6 +49,6 @@ All-append_right [] ys h = h
 All-append_right (x ∷ xs) ys h = All-append_right xs ys (All-tail (λ x. x ≡ 0) x (xs ++ ys) h)
 
 -- the constraints of each flag, and then that of their sum
-pub flags_split : (flags : List ℕ) → first_from 0 ((flag_constraints field) flags) ≡ or_else (first_from 0 (map (bit field) flags)) (first_from (length flags) ((bit field) ((sum_from field) 0 flags) ∷ []))
+pub flags_split : (flags : List ℕ) → first_from 0 (flag_constraints field flags) ≡ or_else (first_from 0 (map (bit field) flags)) (first_from (length flags) (bit field (sum_from field 0 flags) ∷ []))
 unfolding flag_constraints
-flags_split flags = first_from-part 0 (length flags) (map (bit field) flags) ((bit field) ((sum_from field) 0 flags) ∷ []) (omega (arith, length-map flags (bit field)))
+flags_split flags = first_from-part 0 (length flags) (map (bit field) flags) (bit field (sum_from field 0 flags) ∷ []) (omega (arith, length-map flags (bit field)))

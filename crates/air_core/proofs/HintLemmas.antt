@@ -20,7 +20,7 @@ and_none : (b : Bool) → (b && false) ≡ false
 and_none true = refl
 and_none false = refl
 
-pub path_no_program : (op valid pc time next slots : ℕ) (numbers : List ℕ) → nat_eq (slice_index numbers 1) op ≡ false → NoProgram op ((path_lines field) valid pc time next slots numbers)
+pub path_no_program : (op valid pc time next slots : ℕ) (numbers : List ℕ) → nat_eq (slice_index numbers 1) op ≡ false → NoProgram op (path_lines field valid pc time next slots numbers)
 unfolding path_lines
 path_no_program op valid pc time next slots numbers h = (refl, (refl, (rw h (and_none (nat_eq valid 1)), tt)))
 

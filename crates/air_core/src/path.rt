@@ -17,7 +17,7 @@ pub fn path_events(
     slots: u16,
     numbers: &[Fe; 12],
 ) -> [Event; 3]
-    ensures { result ≡ (path_lines field) valid pc time next slots numbers.now }
+    ensures { result ≡ path_lines field valid pc time next slots numbers.now }
 {
     [
         receive(0, valid, &[pc, time]),

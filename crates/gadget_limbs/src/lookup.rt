@@ -22,7 +22,7 @@ pub struct OperationFlags<F = Fe> {
 /// a where the row is a sum or a difference, else b
 #[tactic(auto, unfolding(crate::specs::Lookup::choose))]
 fn choose(valid: Fe, sums: Fe, a: Fe, b: Fe) -> Fe
-    ensures { result ≡ (choose field) valid sums a b }
+    ensures { result ≡ choose field valid sums a b }
 {
     sums.mul(a).add(valid.sub(sums).mul(b))
 }
@@ -30,7 +30,7 @@ fn choose(valid: Fe, sums: Fe, a: Fe, b: Fe) -> Fe
 /// What the xor of b and c is, by the result a.
 #[tactic(auto, unfolding(crate::specs::Lookup::mixed))]
 fn mixed(xor: Fe, or: Fe, and: Fe, a: Fe, b: Fe, c: Fe) -> Fe
-    ensures { result ≡ (mixed field) xor or and a b c }
+    ensures { result ≡ mixed field xor or and a b c }
 {
     let two = Fe::of_u16(2).mul(a);
     let both = b.add(c);
@@ -42,7 +42,7 @@ fn mixed(xor: Fe, or: Fe, and: Fe, a: Fe, b: Fe, c: Fe) -> Fe
 /// What is looked up of the limb `a` of a result, where `b` and `c` are those of the two words.
 #[tactic(auto, unfolding(crate::specs::Lookup::looked_up))]
 pub fn looked_up(flags: &OperationFlags, a: Fe, b: Fe, c: Fe) -> [Fe; 3]
-    ensures { result ≡ (looked_up field) flags.now a b c }
+    ensures { result ≡ looked_up field flags.now a b c }
 {
     let x = choose(flags.valid, flags.sums, a, b);
     let y = choose(flags.valid, flags.sums, a, c);

@@ -11,14 +11,14 @@ use vm_field::Fe;
 /// (x + y + carry - z) / 256
 #[tactic(auto, unfolding(crate::specs::Sum::carry_out))]
 fn carry_out(x: Fe, y: Fe, carry: Fe, z: Fe) -> Fe
-    ensures { result ≡ (carry_out field) x y carry z }
+    ensures { result ≡ carry_out field x y carry z }
 {
     x.add(y).add(carry).sub(z).mul(Fe::INVERSE_OF_256)
 }
 
 #[tactic(auto, unfolding(crate::specs::Sum::gated_bit))]
 fn gated_bit(gate: Fe, carry: Fe) -> Fe
-    ensures { result ≡ (gated_bit field) gate carry }
+    ensures { result ≡ gated_bit field gate carry }
 {
     gate.mul(bit(carry))
 }
@@ -33,7 +33,7 @@ pub fn first_broken<const N: usize>(
     sum: &[Fe; N],
 ) -> Option<u32>
     requires { from + N < 2 ^ 32 }
-    ensures { result ≡ first_from from ((sum_constraints field) gate 0 left.now right.now sum.now) }
+    ensures { result ≡ first_from from (sum_constraints field gate 0 left.now right.now sum.now) }
 {
     let mut carry = Fe::ZERO;
     for i in 0..N {

@@ -22,8 +22,8 @@ pub fn emit_touch<S: EventSink>(
 ) -> Result<(), OutOfMemory>
     requires high { hi ≤ 13 }
     requires room { 4 ≤ S.room sink.old }
-    ensures ok { OnOk result (Handed S.holds S.room sink.old sink.new (counted ((touch_lines field) hi time touch.now))) }
-    ensures err { OnErr result (HandedSome S.holds S.room sink.old sink.new (counted ((touch_lines field) hi time touch.now))) }
+    ensures ok { OnOk result (Handed S.holds S.room sink.old sink.new (counted (touch_lines field hi time touch.now))) }
+    ensures err { OnErr result (HandedSome S.holds S.room sink.old sink.new (counted (touch_lines field hi time touch.now))) }
 {
     let count = touch.count;
     let (space, pointer, old, new) = (touch.space, touch.pointer, touch.old, touch.new);
@@ -73,8 +73,8 @@ pub fn emit_touches<S: EventSink>(
 ) -> Result<(), OutOfMemory>
     requires high { hi ≤ 13 }
     requires room { 4 * length touches.now ≤ S.room sink.old }
-    ensures ok { OnOk result (Handed S.holds S.room sink.old sink.new (counted ((touches_lines field) hi time touches.now))) }
-    ensures err { OnErr result (HandedSome S.holds S.room sink.old sink.new (counted ((touches_lines field) hi time touches.now))) }
+    ensures ok { OnOk result (Handed S.holds S.room sink.old sink.new (counted (touches_lines field hi time touches.now))) }
+    ensures err { OnErr result (HandedSome S.holds S.room sink.old sink.new (counted (touches_lines field hi time touches.now))) }
 {
     for touch in touches {
         emit_touch(hi, time, touch, sink)?;
@@ -85,7 +85,7 @@ pub fn emit_touches<S: EventSink>(
 /// The place of the first access whose constraint is broken, where that of the first stands at the place `from`.
 pub fn touches_broken(from: u32, time: Fe, touches: &[Touch]) -> Option<u32>
     requires { from + length touches.now < 2 ^ 32 }
-    ensures { result ≡ first_from from (map ((touch_constraint field) time) touches.now) }
+    ensures { result ≡ first_from from (map (touch_constraint field time) touches.now) }
 {
     let mut place = from;
     for touch in touches {

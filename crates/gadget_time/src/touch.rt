@@ -31,7 +31,7 @@ pub struct Touch<F = Fe> {
 /// count * (time - before - 1 - lo - 65536 * hi)
 #[tactic(auto, unfolding(crate::specs::Told::time_constraint))]
 fn time_constraint(count: Fe, time: Fe, gap: &Gap) -> Fe
-    ensures { result ≡ (time_constraint field) count time gap.now.before gap.now.lo gap.now.hi }
+    ensures { result ≡ time_constraint field count time gap.now.before gap.now.lo gap.now.hi }
 {
     let upper = element(65536).mul(gap.hi);
     count.mul(time.sub(gap.before).sub(Fe::ONE).sub(gap.lo).sub(upper))
@@ -40,7 +40,7 @@ fn time_constraint(count: Fe, time: Fe, gap: &Gap) -> Fe
 /// The constraint of an access of the row of this time.
 #[tactic(auto, unfolding(crate::specs::Told::touch_constraint))]
 pub fn touch_constraint(time: Fe, touch: &Touch) -> Fe
-    ensures { result ≡ (touch_constraint field) time touch.now }
+    ensures { result ≡ touch_constraint field time touch.now }
 {
     time_constraint(touch.count, time.add(touch.slot), &touch.gap)
 }

@@ -33,35 +33,35 @@ zeros_hold zero = tt
 zeros_hold (suc n) = (refl, zeros_hold n)
 
 -- the weights of flags that are not set add nothing
-weighted_zeros : (acc n : ℕ) (ks : List ℕ) → acc < 2013265921 → (weighted_from field) acc (replicate n 0) ks ≡ acc
+weighted_zeros : (acc n : ℕ) (ks : List ℕ) → acc < 2013265921 → weighted_from field acc (replicate n 0) ks ≡ acc
 weighted_zeros acc zero ks h = refl
 weighted_zeros acc (suc n) [] h = refl
 weighted_zeros acc (suc n) (k ∷ ks) h =
     let same : field_add acc (field_mul 0 k) ≡ acc = omega arith in
-    ap (λ (a : ℕ). (weighted_from field) a (replicate n 0) ks) same ∙ weighted_zeros acc n ks h
+    ap (λ (a : ℕ). weighted_from field a (replicate n 0) ks) same ∙ weighted_zeros acc n ks h
 
 -- the sum of each flag times its weight is the weight of the one that is set
-pub weighted_one : (n k : ℕ) (ks : List ℕ) → k < n → length ks ≡ n → AllBelow ks → (weighted_from field) 0 (one_hot n k) ks ≡ slice_index ks k
+pub weighted_one : (n k : ℕ) (ks : List ℕ) → k < n → length ks ≡ n → AllBelow ks → weighted_from field 0 (one_hot n k) ks ≡ slice_index ks k
 weighted_one zero k ks low long below = absurd (omega arith)
 weighted_one (suc n) k [] low long below = absurd (omega arith)
 weighted_one (suc n) zero (x ∷ ks) low long below =
     let same : field_add 0 (field_mul 1 x) ≡ x = omega (arith, below.0) in
-    ap (λ (a : ℕ). (weighted_from field) a (replicate n 0) ks) same ∙ weighted_zeros x n ks below.0
+    ap (λ (a : ℕ). weighted_from field a (replicate n 0) ks) same ∙ weighted_zeros x n ks below.0
 weighted_one (suc n) (suc k) (x ∷ ks) low long below =
     let same : field_add 0 (field_mul 0 x) ≡ 0 = omega arith in
-    ap (λ (a : ℕ). (weighted_from field) a (one_hot n k) ks) same ∙ weighted_one n k ks (omega arith) (omega arith) below.1
+    ap (λ (a : ℕ). weighted_from field a (one_hot n k) ks) same ∙ weighted_one n k ks (omega arith) (omega arith) below.1
 
 length-zeros : (n : ℕ) → length (replicate {A = ℕ} n 0) ≡ n
 length-zeros zero = refl
 length-zeros (suc n) = omega (arith, length-zeros n)
 
-sum_zeros : (acc n : ℕ) → acc < 2013265921 → (sum_from field) acc (replicate n 0) ≡ acc
+sum_zeros : (acc n : ℕ) → acc < 2013265921 → sum_from field acc (replicate n 0) ≡ acc
 sum_zeros acc zero h = refl
 sum_zeros acc (suc n) h =
     let same : field_add acc 0 ≡ acc = omega arith in
-    ap (λ (a : ℕ). (sum_from field) a (replicate n 0)) same ∙ sum_zeros acc n h
+    ap (λ (a : ℕ). sum_from field a (replicate n 0)) same ∙ sum_zeros acc n h
 
-pub sum_one : (n k : ℕ) → k < n → (sum_from field) 0 (one_hot n k) ≡ 1
+pub sum_one : (n k : ℕ) → k < n → sum_from field 0 (one_hot n k) ≡ 1
 sum_one zero k low = absurd (omega arith)
 sum_one (suc n) zero low = sum_zeros 1 n (omega arith)
 sum_one (suc n) (suc k) low = sum_one n k (omega arith)
@@ -86,7 +86,7 @@ bit_one : (bit field) 1 ≡ 0
 unfolding bit
 bit_one = refl
 
-pub one_hot_holds : (n k : ℕ) → k < n → AllZero ((flag_constraints field) (one_hot n k))
+pub one_hot_holds : (n k : ℕ) → k < n → AllZero (flag_constraints field (one_hot n k))
 unfolding flag_constraints
 one_hot_holds n k low = all_append (λ x. x ≡ 0) _ _ (bits_one n k) (rw (sum_one n k low) bit_one, tt)
 
@@ -104,7 +104,7 @@ unfolding bit
 bit_none = refl
 
 -- flags of which none is set
-pub flags_zero : (n : ℕ) → AllZero ((flag_constraints field) (replicate n 0))
+pub flags_zero : (n : ℕ) → AllZero (flag_constraints field (replicate n 0))
 unfolding flag_constraints
 flags_zero n = all_append (λ x. x ≡ 0) _ _ (bits_zeros n) (rw (sum_none (replicate n 0) (zeros_hold n)) bit_none, tt)
 

@@ -77,13 +77,13 @@ made_one hi time t a top m =
       events = said time t.slot t.space t.pointer t.gap.before (list_of t.old) (list_of t.new) a m.space m.pointer m.old m.new before_is now;
     }
 
-none_zero : (time : ℕ) (t : Touch ℕ) → t.count ≡ 0 → (touch_constraint field) time t ≡ 0
+none_zero : (time : ℕ) (t : Touch ℕ) → t.count ≡ 0 → touch_constraint field time t ≡ 0
 unfolding touch_constraint time_constraint
 none_zero time t none = gate_off t.count (field_sub (field_sub (field_sub (field_sub (field_add time t.slot) t.gap.before) 1) t.gap.lo) (field_mul 65536 t.gap.hi)) none
 
 -- All accesses.
 
-pub made_zero : (hi time : ℕ) (ts : List (Touch ℕ)) (os : List (Option TimedAccess)) → hi ≤ 13 → MadeByAll hi time ts os → AllZero (map ((touch_constraint field) time) ts)
+pub made_zero : (hi time : ℕ) (ts : List (Touch ℕ)) (os : List (Option TimedAccess)) → hi ≤ 13 → MadeByAll hi time ts os → AllZero (map (touch_constraint field time) ts)
 made_zero hi time [] [] top m = tt
 made_zero hi time (t ∷ ts) (None ∷ os) top m = (none_zero time t m.0, made_zero hi time ts os top m.1)
 made_zero hi time (t ∷ ts) (Some a ∷ os) top m = ((made_one hi time t a top m.0).zero, made_zero hi time ts os top m.1)
@@ -106,11 +106,11 @@ made_memory hi time (t ∷ ts) (Some a ∷ os) top m = rw m.0.count (
 made_memory hi time [] (o ∷ os) top m = absurd m
 made_memory hi time (t ∷ ts) [] top m = absurd m
 
-touch_none : (hi time : ℕ) (t : Touch ℕ) → t.count ≡ 0 → AllByRecursion (λ e. e.count ≢ 0 → GoodEvent e) ((touch_lines field) hi time t)
+touch_none : (hi time : ℕ) (t : Touch ℕ) → t.count ≡ 0 → AllByRecursion (λ e. e.count ≢ 0 → GoodEvent e) (touch_lines field hi time t)
 unfolding touch_lines
 touch_none hi time t none = (λ n. absurd (n none), (λ n. absurd (n none), (λ n. absurd (n none), (λ n. absurd (n none), tt))))
 
-touch_good : (hi time : ℕ) (t : Touch ℕ) → hi ≤ 13 → t.gap.lo < 2 ^ 16 → t.gap.hi < 2 ^ hi → AllByRecursion (λ e. e.count ≢ 0 → GoodEvent e) ((touch_lines field) hi time t)
+touch_good : (hi time : ℕ) (t : Touch ℕ) → hi ≤ 13 → t.gap.lo < 2 ^ 16 → t.gap.hi < 2 ^ hi → AllByRecursion (λ e. e.count ≢ 0 → GoodEvent e) (touch_lines field hi time t)
 unfolding touch_lines
 touch_good hi time t top lo high = (
   λ n. good_free _ (omega arith) (omega arith) (omega arith) (omega arith),
@@ -123,44 +123,44 @@ touch_good hi time t top lo high = (
   ),
 )
 
-pub made_good : (hi time : ℕ) (ts : List (Touch ℕ)) (os : List (Option TimedAccess)) → hi ≤ 13 → MadeByAll hi time ts os → AllByRecursion (λ e. e.count ≢ 0 → GoodEvent e) ((touches_lines field) hi time ts)
+pub made_good : (hi time : ℕ) (ts : List (Touch ℕ)) (os : List (Option TimedAccess)) → hi ≤ 13 → MadeByAll hi time ts os → AllByRecursion (λ e. e.count ≢ 0 → GoodEvent e) (touches_lines field hi time ts)
 made_good hi time [] [] top m = tt
 made_good hi time (t ∷ ts) (None ∷ os) top m =
-    all_append (λ e. e.count ≢ 0 → GoodEvent e) ((touch_lines field) hi time t) ((touches_lines field) hi time ts) (touch_none hi time t m.0) (made_good hi time ts os top m.1)
+    all_append (λ e. e.count ≢ 0 → GoodEvent e) (touch_lines field hi time t) (touches_lines field hi time ts) (touch_none hi time t m.0) (made_good hi time ts os top m.1)
 made_good hi time (t ∷ ts) (Some a ∷ os) top m =
     let one = made_one hi time t a top m.0 in
-    all_append (λ e. e.count ≢ 0 → GoodEvent e) ((touch_lines field) hi time t) ((touches_lines field) hi time ts) (touch_good hi time t top one.lo one.hi_fits) (made_good hi time ts os top m.1)
+    all_append (λ e. e.count ≢ 0 → GoodEvent e) (touch_lines field hi time t) (touches_lines field hi time ts) (touch_good hi time t top one.lo one.hi_fits) (made_good hi time ts os top m.1)
 made_good hi time [] (o ∷ os) top m = absurd m
 made_good hi time (t ∷ ts) [] top m = absurd m
 
 -- The whole row.
 
-touch_small : (hi time : ℕ) (t : Touch ℕ) → t.count ≤ 1 → AllByRecursion (λ e. e.count ≤ 1) ((touch_lines field) hi time t)
+touch_small : (hi time : ℕ) (t : Touch ℕ) → t.count ≤ 1 → AllByRecursion (λ e. e.count ≤ 1) (touch_lines field hi time t)
 unfolding touch_lines
 touch_small hi time t h = (h, (h, (h, (h, tt))))
 
-touches_small : (hi time : ℕ) (ts : List (Touch ℕ)) → CountsSmall ts → AllByRecursion (λ e. e.count ≤ 1) ((touches_lines field) hi time ts)
+touches_small : (hi time : ℕ) (ts : List (Touch ℕ)) → CountsSmall ts → AllByRecursion (λ e. e.count ≤ 1) (touches_lines field hi time ts)
 touches_small hi time [] h = tt
 touches_small hi time (t ∷ ts) h =
-    all_append (λ e. e.count ≤ 1) ((touch_lines field) hi time t) ((touches_lines field) hi time ts) (touch_small hi time t h.0) (touches_small hi time ts h.1)
+    all_append (λ e. e.count ≤ 1) (touch_lines field hi time t) (touches_lines field hi time ts) (touch_small hi time t h.0) (touches_small hi time ts h.1)
 
 one_or_none : (n : ℕ) → n ≤ 1 → n ≢ 0 → n ≡ 1
 one_or_none n h some = omega arith
 
-told_counts : (hi : ℕ) (d : Told ℕ Event) → d.valid ≡ 1 → CountsSmall d.touches → AllByRecursion (λ e. e.count ≤ 1) d.others → AllByRecursion (λ e. e.count ≡ 1) (counted ((told_lines field) hi d))
+told_counts : (hi : ℕ) (d : Told ℕ Event) → d.valid ≡ 1 → CountsSmall d.touches → AllByRecursion (λ e. e.count ≤ 1) d.others → AllByRecursion (λ e. e.count ≡ 1) (counted (told_lines field hi d))
 told_counts hi d v small others =
-    let path = (path_lines field) d.valid d.pc d.time d.next d.slots d.numbers in
+    let path = path_lines field d.valid d.pc d.time d.next d.slots d.numbers in
     let path_small = all_weaker (λ e. e.count ≡ 1) (λ e. e.count ≤ 1) (λ e h. omega arith) path (path_counts d.valid d.pc d.time d.next d.slots d.numbers v) in
-    let all = all_append (λ e. e.count ≤ 1) ((told_front field) hi d) d.others
-    (all_append (λ e. e.count ≤ 1) path ((touches_lines field) hi d.time d.touches) path_small (touches_small hi d.time d.touches small)) others in
-    all_counted_some (λ e. e.count ≡ 1) ((told_lines field) hi d) (all_weaker (λ e. e.count ≤ 1) (λ e. e.count ≢ 0 → e.count ≡ 1) (λ e h some. one_or_none e.count h some) ((told_lines field) hi d) all)
+    let all = all_append (λ e. e.count ≤ 1) (told_front field hi d) d.others
+    (all_append (λ e. e.count ≤ 1) path (touches_lines field hi d.time d.touches) path_small (touches_small hi d.time d.touches small)) others in
+    all_counted_some (λ e. e.count ≡ 1) (told_lines field hi d) (all_weaker (λ e. e.count ≤ 1) (λ e. e.count ≢ 0 → e.count ≡ 1) (λ e h some. one_or_none e.count h some) (told_lines field hi d) all)
 
-told_good : (hi : ℕ) (d : Told ℕ Event) → IsInstruction d.numbers → AllByRecursion (λ e. e.count ≢ 0 → GoodEvent e) ((touches_lines field) hi d.time d.touches)
-    → AllByRecursion (λ e. e.count ≢ 0 → GoodEvent e) d.others → Good (counted ((told_lines field) hi d))
+told_good : (hi : ℕ) (d : Told ℕ Event) → IsInstruction d.numbers → AllByRecursion (λ e. e.count ≢ 0 → GoodEvent e) (touches_lines field hi d.time d.touches)
+    → AllByRecursion (λ e. e.count ≢ 0 → GoodEvent e) d.others → Good (counted (told_lines field hi d))
 told_good hi d is touches others =
-    all_counted_some GoodEvent ((told_lines field) hi d)
-    (all_append (λ e. e.count ≢ 0 → GoodEvent e) ((told_front field) hi d) d.others
-    (all_append (λ e. e.count ≢ 0 → GoodEvent e) ((path_lines field) d.valid d.pc d.time d.next d.slots d.numbers) ((touches_lines field) hi d.time d.touches)
+    all_counted_some GoodEvent (told_lines field hi d)
+    (all_append (λ e. e.count ≢ 0 → GoodEvent e) (told_front field hi d) d.others
+    (all_append (λ e. e.count ≢ 0 → GoodEvent e) (path_lines field d.valid d.pc d.time d.next d.slots d.numbers) (touches_lines field hi d.time d.touches)
     (path_good d.valid d.pc d.time d.next d.slots d.numbers is) touches) others)
 
 ends_at : (now time slots n : ℕ) → now ≡ time → slots ≡ n → time + n ≤ 2 ^ 29 → field_add now slots ≡ time + n

@@ -12,7 +12,7 @@ unfolding path_lines
 returns-in_err-emit_sent-clause-err g c =
     let a = c.args in
     let here = rw (c.add.ensures, c.of_u16.ensures) at c.in_err-emit_sent.ensures.err in
-    on_err_anyway _ (some_at 1 ((path_lines field) a.valid a.pc a.time a.next a.slots a.numbers.now) c.in_ok-emit_received.ensures.ok here)
+    on_err_anyway _ (some_at 1 (path_lines field a.valid a.pc a.time a.next a.slots a.numbers.now) c.in_ok-emit_received.ensures.ok here)
 
 pub returns-clause-err : goal.returns-clause-err
 unfolding path_lines
@@ -20,4 +20,4 @@ returns-clause-err g c =
     let a = c.args in
     let second = rw (c.add.ensures, c.of_u16.ensures) at c.in_ok-emit_sent.ensures.ok in
     let both = all_all (received 0 a.valid (a.pc ∷ a.time ∷ []) ∷ []) (sent 0 a.valid (a.next ∷ field_add a.time a.slots ∷ []) ∷ []) c.in_ok-emit_received.ensures.ok second in
-    on_err_map c.emit_sent-2.result (some_at 2 ((path_lines field) a.valid a.pc a.time a.next a.slots a.numbers.now) both) c.emit_sent-2.ensures.err
+    on_err_map c.emit_sent-2.result (some_at 2 (path_lines field a.valid a.pc a.time a.next a.slots a.numbers.now) both) c.emit_sent-2.ensures.err

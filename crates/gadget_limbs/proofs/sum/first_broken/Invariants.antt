@@ -6,5 +6,5 @@ use Rattle.air_core.specs.Ring.{field}
 
 abbrev pub invariant-loop-i : goal.invariant-loop-i
 invariant-loop-i g l =
-    first_from l.from ((sum_constraints field) l.gate 0 l.left l.right l.sum)
-    ≡ first_from (l.from + l.i) ((sum_constraints field) l.gate l.carry (drop l.i l.left) (drop l.i l.right) (drop l.i l.sum))
+    first_from l.from (sum_constraints field l.gate 0 l.left l.right l.sum)
+    ≡ first_from (l.from + l.i) (sum_constraints field l.gate l.carry (drop l.i l.left) (drop l.i l.right) (drop l.i l.sum))

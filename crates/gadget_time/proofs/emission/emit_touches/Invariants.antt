@@ -9,4 +9,4 @@ use Rattle.air_core.specs.Ring.{field}
 abbrev pub invariant-loop-touch : goal.invariant-loop-touch
 invariant-loop-touch g l =
     let sink = g.S.EventSink in
-    Handed sink.holds sink.room l.fn.sink l.sink (counted ((touches_lines field) l.hi l.time (take l.touch-index l.touches)))
+    Handed sink.holds sink.room l.fn.sink l.sink (counted (touches_lines field l.hi l.time (take l.touch-index l.touches)))

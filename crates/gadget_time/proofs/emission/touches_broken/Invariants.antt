@@ -6,4 +6,4 @@ use Rattle.air_core.specs.Ring.{field}
 
 abbrev pub invariant-loop-touch : goal.invariant-loop-touch
 invariant-loop-touch l =
-    (l.place ≡ l.from + l.touch-index) × (first_from l.from (map ((touch_constraint field) l.time) l.touches) ≡ first_from l.place (map ((touch_constraint field) l.time) (drop l.touch-index l.touches)))
+    (l.place ≡ l.from + l.touch-index) × (first_from l.from (map (touch_constraint field l.time) l.touches) ≡ first_from l.place (map (touch_constraint field l.time) (drop l.touch-index l.touches)))
