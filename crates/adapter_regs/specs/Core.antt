@@ -17,7 +17,8 @@ use Rattle.gadget_time.specs.Form.{Form, Parts, Columns, valid_of, owns_of}
 use Rattle.gadget_time.specs.FormLaws.{FormLaws}
 use Rattle.adapter_regs.specs.declared.regs.Regs.{Regs}
 use Rattle.adapter_regs.specs.Regs.{regs_of, regs_touches, regs_numbers, immediate_constraints, words_from, limbs_of_zero, regs_filled, new_filled, regs_cells, time_cells}
-use Rattle.adapter_regs.specs.Results.{is_register, result}
+use Rattle.vm_isa.specs.Opcodes.{is_register}
+use Rattle.vm_isa.specs.Results.{result}
 
 -- what a core sees of a row: the flags, the two words, and its own columns
 pub record Operands (A : Type 0) : Type 0 where

@@ -1,4 +1,3 @@
 pub mod Regs
-pub mod Results
 pub mod Core
 pub mod lemmas

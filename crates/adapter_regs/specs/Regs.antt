@@ -3,6 +3,7 @@ use Rattle.std.specs.Prelude.{ℕ, ◌+◌, Bool, cond, List, [], ◌∷◌, ◌
 use Rattle.vm_isa.specs.declared.access.TimedAccess.{TimedAccess}
 use Rattle.vm_isa.specs.declared.record.StepRecord.{StepRecord}
 use Rattle.vm_isa.specs.Instr.{bit_of}
+use Rattle.vm_isa.specs.Spaces.{REGISTERS}
 use Rattle.vm_field.specs.declared.limbs.Limbs.{Limbs}
 use Rattle.vm_field.specs.Limbs.{limbs_by, limbs_from, list_of}
 use Rattle.air_core.specs.First.{gated_difference}
@@ -45,14 +46,14 @@ regs_of o immediates own pc time rest =
     }
 
 unfoldable pub first_touch : {A E : Type 0} → Ring A E → Regs A → A → Touch A
-first_touch o r valid = record { count = valid; slot = o.number 0; space = o.number 1; pointer = o.times (o.number 4) r.rs1; old = r.left; new = r.left; gap = r.first }
+first_touch o r valid = record { count = valid; slot = o.number 0; space = o.number REGISTERS; pointer = o.times (o.number 4) r.rs1; old = r.left; new = r.left; gap = r.first }
 
 -- with an immediate there is no second access
 unfoldable pub second_touch : {A E : Type 0} → Ring A E → Regs A → A → Touch A
 second_touch o r valid = record {
   count = o.times valid (o.minus (o.number 1) r.use_imm);
   slot = o.number 1;
-  space = o.number 1;
+  space = o.number REGISTERS;
   pointer = o.times (o.number 4) r.rs2;
   old = r.right;
   new = r.right;
@@ -60,7 +61,7 @@ second_touch o r valid = record {
 }
 
 unfoldable pub third_touch : {A E : Type 0} → Ring A E → Regs A → A → Limbs A → Touch A
-third_touch o r valid new = record { count = valid; slot = o.number 2; space = o.number 1; pointer = o.times (o.number 4) r.rd; old = r.old; new = new; gap = r.third }
+third_touch o r valid new = record { count = valid; slot = o.number 2; space = o.number REGISTERS; pointer = o.times (o.number 4) r.rd; old = r.old; new = new; gap = r.third }
 
 abbrev pub regs_touches : {A E : Type 0} → Ring A E → Regs A → A → Limbs A → List (Touch A)
 regs_touches o r valid new = first_touch o r valid ∷ second_touch o r valid ∷ third_touch o r valid new ∷ []

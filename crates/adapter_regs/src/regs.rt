@@ -7,6 +7,7 @@ ghost use Rattle.adapter_regs.specs.Regs.{regs_of, gap_by, words_from, first_tou
 use air_core::gated_difference;
 use gadget_time::{Gap, Touch};
 use vm_field::{Fe, Limbs};
+use vm_isa::space;
 
 /// The columns that each table of the register form has. Without immediates `use_imm` and `imm` are 0.
 #[derive(Clone, Copy, Debug)]
@@ -77,7 +78,7 @@ fn first_touch(r: &Regs, valid: Fe) -> Touch
     Touch {
         count: valid,
         slot: Fe::ZERO,
-        space: Fe::ONE,
+        space: Fe::of_u16(space::REGISTERS as u16),
         pointer: Fe::of_u16(4).mul(r.rs1),
         old: r.left,
         new: r.left,
@@ -92,7 +93,7 @@ fn second_touch(r: &Regs, valid: Fe) -> Touch
     Touch {
         count: valid.mul(Fe::ONE.sub(r.use_imm)),
         slot: Fe::ONE,
-        space: Fe::ONE,
+        space: Fe::of_u16(space::REGISTERS as u16),
         pointer: Fe::of_u16(4).mul(r.rs2),
         old: r.right,
         new: r.right,
@@ -107,7 +108,7 @@ fn third_touch(r: &Regs, valid: Fe, new: Limbs) -> Touch
     Touch {
         count: valid,
         slot: Fe::of_u16(2),
-        space: Fe::ONE,
+        space: Fe::of_u16(space::REGISTERS as u16),
         pointer: Fe::of_u16(4).mul(r.rd),
         old: r.old,
         new,

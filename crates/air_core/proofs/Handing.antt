@@ -1,12 +1,10 @@
 -- Events that are handed over one part behind the other.
-use Rattle.std.proofs.Common.{◌≡◌, ℕ, ◌+◌, false, true, nat_eq, List, [], ◌∷◌, ◌++◌, length, take, drop, get_or, sym, ap, subst, ◌∙◌, arith, length-append, append-nil, append_assoc, take-append-drop, refl, flat_map, ◌≤◌, ◌<◌, ◌*◌}
+use Rattle.std.proofs.Common.{◌≡◌, ℕ, ◌+◌, false, true, nat_eq, List, [], ◌∷◌, ◌++◌, length, take, drop, sym, subst, arith, take-append-drop, refl, ◌≤◌}
 use Rattle.std.specs.Prelude.{Result, Ok, Err, OnOk}
-use Rattle.std.proofs.lemmas.List.{take_more}
-use Rattle.std.proofs.lemmas.Grind.{flat_map-append}
 use Rattle.air_core.specs.declared.event.Event.{Event}
-use Rattle.air_core.specs.Sheet.{counted, if_counted}
+use Rattle.air_core.specs.Sheet.{counted}
 use Rattle.air_core.specs.ListLemmas.{counted-append, counted_length}
-use Rattle.air_core.specs.Sink.{Handed, HandedSome, handed_none, handed_both, some_from_none, some_after, some_of_more}
+use Rattle.air_core.specs.Sink.{Handed, HandedSome, handed_none, handed_both, some_after, some_of_more}
 
 module _ {S : Type 0} {holds : S → List Event → Type 0} {room : S → ℕ} where
   -- all of a part and all of another

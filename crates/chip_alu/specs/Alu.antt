@@ -3,6 +3,7 @@
 use Rattle.std.specs.Prelude.{ℕ, true, List, [], ◌∷◌, ◌++◌}
 use Rattle.vm_field.specs.declared.limbs.Limbs.{Limbs}
 use Rattle.vm_field.specs.Limbs.{limbs_by, list_of}
+use Rattle.vm_isa.specs.Opcodes.{ADD, SUB, XOR, OR, AND}
 use Rattle.air_core.specs.Flags.{sum_from, place_of}
 use Rattle.air_core.specs.Ring.{Ring, field, cell}
 use Rattle.gadget_limbs.specs.declared.lookup.OperationFlags.{OperationFlags}
@@ -11,7 +12,7 @@ use Rattle.gadget_limbs.specs.Sum.{sum_constraints}
 use Rattle.adapter_regs.specs.Core.{Core, CoreParts, Operands}
 
 abbrev pub alu_opcodes : List ℕ
-alu_opcodes = 1 ∷ 2 ∷ 3 ∷ 4 ∷ 5 ∷ []
+alu_opcodes = ADD ∷ SUB ∷ XOR ∷ OR ∷ AND ∷ []
 
 -- the result
 abbrev pub result_of : {A E : Type 0} → Ring A E → List A → Limbs A

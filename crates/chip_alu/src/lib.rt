@@ -91,7 +91,7 @@ impl RegsCore for AluCore {
 
     fn opcode(flags: &[Fe]) -> Fe {
         let flags = [flags[0], flags[1], flags[2], flags[3], flags[4]];
-        air_core::opcode(&flags, &[1, 2, 3, 4, 5])
+        air_core::opcode(&flags, &[opcode::ADD as u16, opcode::SUB as u16, opcode::XOR as u16, opcode::OR as u16, opcode::AND as u16])
     }
 
     fn new_word(flags: &[Fe], own: &[Fe], left: Limbs, right: Limbs) -> Limbs {

@@ -4,6 +4,7 @@ use Rattle.std.specs.List.{AllByRecursion}
 use Rattle.vm_field.specs.Field.{modulus}
 use Rattle.vm_isa.specs.declared.access.TimedAccess.{TimedAccess}
 use Rattle.vm_isa.specs.declared.record.StepRecord.{StepRecord}
+use Rattle.vm_isa.specs.Opcodes.{HINT, HINT_NEXT}
 use Rattle.vm_isa.specs.Slots.{slots_of}
 use Rattle.vm_isa.specs.Words.{IsBytes}
 use Rattle.vm_isa.specs.Instr.{IsInstruction, numbers_of}
@@ -93,7 +94,7 @@ pub record FormLaws (f : Form) : Type 0 where
 
 -- no row of these opcodes is a hint
 abbrev pub NoHints : Form → Type 0
-NoHints f = AllByRecursion (λ op. (nat_eq op 37 ≡ false) × (nat_eq op 42 ≡ false)) f.opcodes
+NoHints f = AllByRecursion (λ op. (nat_eq op HINT ≡ false) × (nat_eq op HINT_NEXT ≡ false)) f.opcodes
 
 -- What follows of the table, with times of 16 + hi bits.
 pub record FormTable (f : Form) (hi : ℕ) : Type 0 where

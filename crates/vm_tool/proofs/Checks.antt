@@ -1,74 +1,106 @@
 -- What `check` answers.
-use Rattle.std.proofs.Common.{◌≡◌, ℕ, List, [], ◌∷◌, refl, sym, ap, subst, Some, Ok, Err, arith, IfSome}
+use Rattle.std.proofs.Common.{◌≡◌, ℕ, List, [], ◌∷◌, take, Bool, true, refl, sym, ap, ◌∙◌, subst, None, Some, Ok, Err, arith, IfSome}
+use Rattle.std.specs.Option.{option_map}
 use Rattle.std.specs.declared.option.Option.{Option}
 use Rattle.std.specs.Prelude.{Result}
 use Rattle.vm_host.specs.declared.Slot.TheVariants.{Elf, Second}
 use Rattle.vm_host.specs.declared.Place.{Place}
 use Rattle.vm_host.specs.declared.Place.TheVariants as place
-use Rattle.vm_host.specs.State.{HostState, Input}
+use Rattle.vm_host.specs.declared.HostError.{HostError}
+use Rattle.vm_host.specs.declared.HostError.TheVariants as host
+use Rattle.vm_host.specs.Memory.{by_slot}
+use Rattle.vm_host.specs.State.{HostState, Input, after_these}
 use Rattle.vm_host.specs.ReadUpTo.{Took}
-use Rattle.vm_host.specs.Calls.{Rose}
+use Rattle.vm_host.specs.Calls.{AtEnd, Rose}
 use Rattle.air_core.specs.Nop.{nop_sheet}
 use Rattle.elf_image.specs.Loaded.{Loaded}
+use Rattle.vm_checker.specs.declared.Accepted.{Accepted as Acceptance}
 use Rattle.vm_checker.specs.declared.Verdict.{Verdict}
+use Rattle.vm_checker.specs.declared.Verdict.TheVariants as verdict
+use Rattle.vm_checker.specs.declared.Reason.TheVariants as reason
 use Rattle.vm_checker.specs.declared.CheckError.{CheckError}
 use Rattle.vm_checker.specs.declared.CheckError.TheVariants as error
 use Rattle.vm_checker.specs.Verdicts.{Checks, Judged}
+use Rattle.vm_tool.specs.declared.answer.Answer.TheVariants.{Accepted}
 use Rattle.vm_tool.specs.declared.answer.Halt.{Halt}
-use Rattle.vm_tool.specs.declared.answer.Halt.TheVariants.{Found, Fault, Memory}
+use Rattle.vm_tool.specs.declared.answer.Halt.TheVariants.{Found, Host}
 use Rattle.vm_tool.specs.Command.{check}
-use Rattle.vm_tool.specs.Files.{GivesImage, RefusesElf, IsContent}
-use Rattle.vm_tool.specs.CheckCommand.{answer_of_verdict, elf_not_read, judged, CheckSays}
+use Rattle.vm_tool.specs.Files.{GivesImage, RefusesElf, IsContent, elf_refused, over_image}
+use Rattle.vm_tool.specs.CheckCommand.{answer_of_verdict}
 use Rattle.vm_tool.specs.ReadFile.{Quiet, IsOpened, ReadWhole, HaltsAt}
-use Rattle.vm_tool.specs.Outcome.{Finds}
+use Rattle.vm_tool.specs.Outcome.{Finds, ReadsAccepted}
 use Rattle.vm_tool.proofs.Files.{opened_then_took, rose_after}
-use Rattle.vm_tool.proofs.Quiet.{quiet_none, quiet_both, some_content, told_before}
-use Rattle.vm_tool.proofs.Stages.{halts, finds_quietly}
-use Rattle.vm_tool.proofs.Runs.{elf_not_done}
+use Rattle.vm_tool.proofs.Quiet.{quiet_both, some_content, told_before, same_content}
+use Rattle.vm_tool.proofs.Stages.{ElfCommand, finds_second, fails_second}
 
--- the ELF file's bytes decide
-pub elf_halts : (elf tables : List ℕ) (s t : HostState) (halt : Halt) → HaltsAt RefusesElf Elf elf s t halt → Finds (Some (check elf tables)) s t halt
-elf_halts elf tables s t halt h =
-    let other = some_content (s.content Second tables) in
-    halts (check elf tables) RefusesElf Elf elf [] ((place.Second, tables) ∷ []) s s t halt refl (λ o. o) (quiet_none s) h
-    (λ bytes found told why. (
-      record { elf_bytes = bytes; table_bytes = other.0; elf_told = told; tables_told = other.1; is = elf_not_read why },
-      elf_not_done bytes found why,
-    ))
+pub check_known : (elf tables : List ℕ) → ElfCommand (check elf tables) elf ((place.Second, tables) ∷ [])
+check_known elf tables = record {
+  names = refl;
+  says = λ inputs found why. elf_refused why;
+  leaves = λ inputs s u halt not writes. (writes, λ accepted is. absurd (not accepted is));
+  fill = λ content bytes told. let other = some_content (content Second tables) in (by_slot bytes other.0, (told, (other.1, tt)), refl);
+}
 
--- the table file can't be opened
-pub tables_halt : (elf tables : List ℕ) (s t u : HostState) (bytes : List ℕ) (halt : Halt) → ReadWhole Elf elf s t bytes → HaltsAt (λ _ _. ⊥) Second tables t u halt → Finds (Some (check elf tables)) s u halt
-tables_halt elf tables s t u bytes halt a h =
-    halts (check elf tables) (λ _ _. ⊥) Second tables ((place.Elf, elf) ∷ []) [] s t u halt refl (λ o. o) a.quiet h
-    (λ given found told why. absurd (why))
+-- of an accepted verdict the answer is an accepted file
+accepted_verdict : (v : Verdict) (accepted : Acceptance) → Found (answer_of_verdict v) ≡ Found (Accepted accepted) → v ≡ verdict.Accepted accepted
+accepted_verdict (verdict.Accepted other) accepted e = let same : other ≡ accepted = cc in ap verdict.Accepted same
+accepted_verdict (verdict.Rejected why) accepted e = absurd (cc (e))
 
-module _ (elf tables : List ℕ) (s t u w : HostState) (bytes : List ℕ) (loaded : Loaded) (a : ReadWhole Elf elf s t bytes) (o : IsOpened Second tables t u) where
-  read_both : (taken : List ℕ) → Took Second u w taken → Quiet s w ((place.Elf, elf) ∷ (place.Second, tables) ∷ [])
-  read_both taken took =
-      quiet_both s t w ((place.Elf, elf) ∷ []) ((place.Second, tables) ∷ []) a.quiet (opened_then_took Second tables taken t u w o took)
+-- what was told of an input is told at its end, and nothing is left
+rest_at_end : (told left : Option (List ℕ)) (taken : List ℕ) → told ≡ after_these taken left → AtEnd left → left ≡ option_map (λ bytes. []) told
+rest_at_end None None taken e end = refl
+rest_at_end None (Some xs) taken e end = absurd (cc (e))
+rest_at_end (Some ys) None taken e end = absurd (cc (e))
+rest_at_end (Some ys) (Some xs) taken e end = ap Some end
 
-  -- the verdict is found
-  pub check_found : (verdict : Verdict) → GivesImage bytes loaded → Checks (nop_sheet 8) loaded u w (Ok verdict) → Finds (Some (check elf tables)) s w (Found (answer_of_verdict verdict))
-  check_found verdict image c =
-      let quiet = read_both c.took.0 c.took.1 in
-      let P : Option (List ℕ) → Type 0 = λ told. IfSome told (λ rest. rest ≡ c.judged.bytes) in
-      let told : IsContent (t.content Second tables) c.judged.bytes = subst P (ap (λ (i : Input). i.rest) o.input) c.judged.told in
-      let says : CheckSays (s.content Elf elf) (s.content Second tables) (answer_of_verdict verdict) = record {
-        elf_bytes = bytes;
-        table_bytes = c.judged.bytes;
-        elf_told = a.told;
-        tables_told = told_before s t ((place.Elf, elf) ∷ []) Second tables c.judged.bytes a.quiet told;
-        is = judged (record { loaded = loaded; image = image; verdict = verdict; judges = c.judged.judges; is = refl });
-      } in
-      finds_quietly (check elf tables) ((place.Elf, elf) ∷ []) [] (place.Second, tables) 1 s w (Found (answer_of_verdict verdict)) refl (λ o. o) quiet (says, λ done. quiet.named)
+same_input : (i : Input) (b : Bool) (told : Option (List ℕ)) → i.is_open ≡ b → i.rest ≡ told → i ≡ record { is_open = b; rest = told }
+same_input i b told stands rest = ap (λ x. record i { is_open = x }) stands ∙ ap (λ x. record { is_open = b; rest = x }) rest
 
-  -- reading fails
-  pub check_fails : Checks (nop_sheet 8) loaded u w (Err error.Fault) → Finds (Some (check elf tables)) s w Fault
-  check_fails c =
-      finds_quietly (check elf tables) ((place.Elf, elf) ∷ []) [] (place.Second, tables) 1 s w Fault refl (λ o. o) (read_both c.took.0 c.took.1)
-      (rose_after s.faults u.faults w.faults (omega (arith, a.quiet.later, o.quiet.later)) (c.fault refl))
+module _ (elf tables : List ℕ) (s t : HostState) (bytes : List ℕ) (loaded : Loaded) (a : ReadWhole Elf elf s t bytes) (image : GivesImage bytes loaded) where
+  -- the table file can't be opened
+  pub tables_halt : (u : HostState) (halt : Halt) → HaltsAt (λ _ _. ⊥) Second tables t u halt → Finds (Some (check elf tables)) s u halt
+  tables_halt u (Found found) h = absurd (h.2)
+  tables_halt u (Host error) h =
+      let both = quiet_both s t u ((place.Elf, elf) ∷ []) (take h.0.count ((place.Second, tables) ∷ [])) a.quiet h.0.quiet in
+      fails_second (check elf tables) elf tables s u bytes loaded h.0.count error (check_known elf tables) a.told image both
+      (λ failed. omega (arith, h.1 failed, a.quiet.later, h.0.quiet.later))
 
-  -- memory was refused
-  pub check_without_memory : {result : Result Verdict CheckError} → Checks (nop_sheet 8) loaded u w result → Finds (Some (check elf tables)) s w Memory
-  check_without_memory c =
-      finds_quietly (check elf tables) ((place.Elf, elf) ∷ []) [] (place.Second, tables) 1 s w Memory refl (λ o. o) (read_both c.took.0 c.took.1) tt
+  module _ (u w : HostState) (o : IsOpened Second tables t u) where
+    read_both : (taken : List ℕ) → Took Second u w taken → Quiet s w ((place.Elf, elf) ∷ (place.Second, tables) ∷ [])
+    read_both taken took =
+        quiet_both s t w ((place.Elf, elf) ∷ []) ((place.Second, tables) ∷ []) a.quiet (opened_then_took Second tables taken t u w o took).quiet
+
+    -- an accepted table file was read to its end
+    reads_accepted : (v : Verdict) (c : Checks (nop_sheet 8) loaded u w (Ok v)) → ReadsAccepted tables s w (Found (answer_of_verdict v))
+    reads_accepted v c accepted e =
+        let is : v ≡ verdict.Accepted accepted = accepted_verdict v accepted e in
+        let end : AtEnd (w.input Second).rest = c.judged.end (λ rejected. cc (is, rejected)) in
+        let content : (u.input Second).rest ≡ s.content Second tables = ap (λ (i : Input). i.rest) o.input ∙ ap (λ told. told Second tables) (same_content s t ((place.Elf, elf) ∷ []) a.quiet) in
+        let rest : (w.input Second).rest ≡ option_map (λ bytes. []) (s.content Second tables) =
+        rest_at_end (s.content Second tables) (w.input Second).rest c.took.0 (sym content ∙ c.took.1.taken) end in
+        let stands : (w.input Second).is_open ≡ true = c.took.1.is_open in
+        same_input (w.input Second) true (option_map (λ bytes. []) (s.content Second tables)) stands rest
+
+    -- the verdict is found
+    pub check_found : (v : Verdict) → Checks (nop_sheet 8) loaded u w (Ok v) → Finds (Some (check elf tables)) s w (Found (answer_of_verdict v))
+    check_found v c =
+        let quiet = read_both c.took.0 c.took.1 in
+        let P : Option (List ℕ) → Type 0 = λ told. IfSome told (λ rest. rest ≡ c.judged.bytes) in
+        let told : IsContent (t.content Second tables) c.judged.bytes = subst P (ap (λ (i : Input). i.rest) o.input) c.judged.told in
+        let told_first = told_before s t ((place.Elf, elf) ∷ []) Second tables c.judged.bytes a.quiet told in
+        finds_second (check elf tables) elf tables s w bytes c.judged.bytes loaded 1 (Found (answer_of_verdict v)) refl a.told told_first image
+        (λ writes. (writes, reads_accepted v c)) quiet
+        (over_image loaded image (record { verdict = v; judges = c.judged.judges; is = refl }), λ done. quiet.named)
+
+    fails : {result : Result Verdict CheckError} (error : HostError) → Checks (nop_sheet 8) loaded u w result → (error ≡ host.Failed → Rose u.faults w.faults) → Finds (Some (check elf tables)) s w (Host error)
+    fails error c rose =
+        fails_second (check elf tables) elf tables s w bytes loaded 1 error (check_known elf tables) a.told image (read_both c.took.0 c.took.1)
+        (λ failed. rose_after s.faults u.faults w.faults (omega (arith, a.quiet.later, o.quiet.later)) (rose failed))
+
+    -- reading fails
+    pub check_fails : Checks (nop_sheet 8) loaded u w (Err error.Fault) → Finds (Some (check elf tables)) s w (Host host.Failed)
+    check_fails c = fails host.Failed c (λ failed. c.fault refl)
+
+    -- memory was refused
+    pub check_without_memory : {result : Result Verdict CheckError} → Checks (nop_sheet 8) loaded u w result → Finds (Some (check elf tables)) s w (Host host.OutOfMemory)
+    check_without_memory c = fails host.OutOfMemory c (λ failed. absurd (cc (failed)))

@@ -1,15 +1,20 @@
 -- What follows from the contract of the top call.
-use Rattle.std.proofs.Common.{◌≡◌, ℕ, ◌<◌, ◌≤◌, ◌^◌, List, length, None, Some, refl, sym, ap, ◌∙◌, inl, inr, arith, subst}
+use Rattle.std.proofs.Common.{◌≡◌, ◌⊎◌, ℕ, ◌<◌, ◌≤◌, ◌^◌, List, [], ◌∷◌, length, suc, zero, None, Some, refl, sym, ap, ◌∙◌, inl, inr, arith, subst}
+use Rattle.std.specs.Prelude.{if◌then◌else◌, codes}
+use Rattle.std.specs.Str.{bytes_eq}
+use Rattle.std.specs.Str.Parse.{digits_value}
 use Rattle.std.specs.declared.option.Option.{Option}
 use Rattle.std.specs.Fmt.{decimal}
-use Rattle.std.proofs.lemmas.Fmt.{decimal_injective}
+use Rattle.std.proofs.lemmas.Fmt.{decimal_is_IsNumeral}
+use Rattle.vm_host.specs.declared.Slot.{Slot}
 use Rattle.vm_host.specs.declared.Slot.TheVariants.{Elf, Second}
+use Rattle.vm_host.specs.declared.Place.{Place}
+use Rattle.vm_host.specs.declared.Place.TheVariants as place
 use Rattle.vm_host.specs.State.{HostState, then_more}
 use Rattle.vm_host.specs.Calls.{Rose}
 use Rattle.elf_image.specs.Loaded.{Loaded}
 use Rattle.elf_image.proofs.Images.{image_is_one, refusal_is_one, refused_has_no_image}
 use Rattle.rv_run.specs.declared.outcome.RunEnd.TheVariants.{Ended}
-use Rattle.rv_run.specs.Run.{IsRunEnd}
 use Rattle.rv_run.proofs.Runs.{run_end_is_one}
 use Rattle.vm_tool.specs.declared.answer.Answer.{Answer}
 use Rattle.vm_tool.specs.declared.answer.Answer.TheVariants as answer
@@ -17,30 +22,44 @@ use Rattle.vm_tool.specs.declared.answer.Status.{Status}
 use Rattle.vm_tool.specs.declared.answer.Status.TheVariants as status
 use Rattle.vm_tool.specs.Answer.{status_of, text_of}
 use Rattle.vm_tool.specs.Command.{Command, run, transpile, check, words_of, IsInLimits}
-use Rattle.vm_tool.specs.Files.{MAX_FILE, GivesImage, RefusesElf, too_long, refused, RefusesHints}
-use Rattle.vm_tool.specs.TranspileCommand.{Lists, not_read, listed}
-use Rattle.vm_transpile.specs.Program.{program_of}
-use Rattle.vm_tool.specs.RunCommand.{answer_of_end, RunEnds, RunAnswers, elf_refused, hints_refused, ended, RunSays}
-use Rattle.vm_tool.specs.Says.{Says}
-use Rattle.vm_tool.specs.Outcome.{Outcome, answered, fault, memory}
-use Rattle.vm_tool.specs.Laws.{MeaningIsOne, RunAnswerIsOne, IsAnswered, RunIsDetermined, RefusedElfIsSaid, LongElfIsSaid, RunIsComplete, TranspileAnswerIsOne, TranspileIsDetermined, FaultHasCause}
+use Rattle.vm_tool.specs.Files.{MAX_FILE, IsContent, AreContents, GivesImage, RefusesElf, too_long, refused, OverElf, elf_refused, over_image, RefusesHints}
+use Rattle.vm_tool.specs.RunCommand.{answer_of_end, RunAnswers, hints_refused, ended, RunEnds}
+use Rattle.vm_tool.specs.TranspileCommand.{Lists}
+use Rattle.vm_tool.specs.CheckCommand.{CheckAnswers}
+use Rattle.vm_tool.specs.Says.{Says, Succeeds}
+use Rattle.vm_tool.specs.Outcome.{all_names, OpensElfAlone, Outcome, answered, fault, memory, Answers}
+use Rattle.vm_tool.specs.Laws.{MeaningIsOne, AnswerIsOne, AreTold, IsAnswered, Determined, Complete, RefusedElfDecides, FaultHasCause}
+use Rattle.vm_tool.proofs.Verdicts.{check_answers_are_one, accepted_says}
 use Rattle.vm_tool.proofs.Quiet.{told_is}
 
-same_command : (a b : Command) → IsInLimits a → IsInLimits b → words_of a ≡ words_of b → a ≡ b
-same_command (run elf hints steps) (run elf' hints' steps') h k e =
-    let d : decimal steps ≡ decimal steps' = cc in
+-- ---- words
+
+word_at : ℕ → List (List ℕ) → List ℕ
+word_at n [] = []
+word_at zero (word ∷ words) = word
+word_at (suc n) (word ∷ words) = word_at n words
+
+-- the command that words are, if they are one
+read_back : List (List ℕ) → Option Command
+read_back words =
+    let name = word_at 0 words in
+    if bytes_eq name (codes "run") then Some (run (word_at 1 words) (word_at 2 words) (digits_value 10 (word_at 3 words)))
+    else if bytes_eq name (codes "transpile") then Some (transpile (word_at 1 words))
+    else if bytes_eq name (codes "check") then Some (check (word_at 1 words) (word_at 2 words))
+    else None
+
+reads_back : (command : Command) → IsInLimits command → read_back (words_of command) ≡ Some command
+unfolding read_back word_at
+reads_back (run elf hints steps) h =
     let small : steps < 2 ^ 64 = omega arith in
-    let small' : steps' < 2 ^ 64 = omega arith in
-    let n : steps ≡ steps' = decimal_injective steps steps' small small' d in
-    cc
-same_command (run elf hints steps) (transpile elf') h k e = absurd cc
-same_command (transpile elf) (run elf' hints' steps') h k e = absurd cc
-same_command (transpile elf) (transpile elf') h k e = cc
-same_command (check elf tables) (check elf' tables') h k e = cc
-same_command (check elf tables) (run elf' hints' steps') h k e = absurd cc
-same_command (check elf tables) (transpile elf') h k e = absurd cc
-same_command (run elf hints steps) (check elf' tables') h k e = absurd cc
-same_command (transpile elf) (check elf' tables') h k e = absurd cc
+    ap (λ n. Some (run elf hints n)) (decimal_is_IsNumeral steps small).1
+reads_back (transpile elf) h = refl
+reads_back (check elf tables) h = refl
+
+same_command : (a b : Command) → IsInLimits a → IsInLimits b → words_of a ≡ words_of b → a ≡ b
+same_command a b h k e =
+    let same : Some a ≡ Some b = sym (reads_back a h) ∙ ap read_back e ∙ reads_back b k in
+    cc (same)
 
 pub meaning_is_one : MeaningIsOne
 meaning_is_one words None None a b = refl
@@ -48,99 +67,121 @@ meaning_is_one words None (Some d) a b = absurd (a d b.1 b.0)
 meaning_is_one words (Some c) None a b = absurd (b c a.1 a.0)
 meaning_is_one words (Some c) (Some d) a b = ap Some (same_command c d a.1 b.1 (sym a.0 ∙ b.0))
 
+-- ---- one answer
+
 -- a refused file gives no image, so nothing else is answered
-pub refused_alone : (elf : List ℕ) (found : Answer) (loaded : Loaded) → RefusesElf elf found → GivesImage elf loaded → ⊥
+refused_alone : (elf : List ℕ) (found : Answer) (loaded : Loaded) → RefusesElf elf found → GivesImage elf loaded → ⊥
 refused_alone elf found loaded (too_long long is) g = omega (arith, long, g.short)
 refused_alone elf found loaded (refused error short r is) g = refused_has_no_image elf loaded error r g.image
 
 -- a file is refused with one answer
-pub refusal_answer_is_one : (elf : List ℕ) (a b : Answer) → RefusesElf elf a → RefusesElf elf b → a ≡ b
+refusal_answer_is_one : (elf : List ℕ) (a b : Answer) → RefusesElf elf a → RefusesElf elf b → a ≡ b
 refusal_answer_is_one elf a b (too_long long is) (too_long long' is') = is ∙ sym is'
 refusal_answer_is_one elf a b (too_long long is) (refused error short r is') = absurd (omega (arith, long, short))
 refusal_answer_is_one elf a b (refused error short r is) (too_long long is') = absurd (omega (arith, long, short))
 refusal_answer_is_one elf a b (refused error short r is) (refused error' short' r' is') =
     is ∙ ap answer.ElfRefused (refusal_is_one elf error error' r r') ∙ sym is'
 
+-- over an ELF file there is one answer where there is one over its image
+over_elf_is_one : (elf : List ℕ) (Over : Loaded → Answer → Type 0) → ((loaded : Loaded) (a b : Answer) → Over loaded a → Over loaded b → a ≡ b)
+    → (a b : Answer) → OverElf elf Over a → OverElf elf Over b → a ≡ b
+over_elf_is_one elf Over one a b (elf_refused x) (elf_refused y) = refusal_answer_is_one elf a b x y
+over_elf_is_one elf Over one a b (elf_refused x) (over_image loaded image y) = absurd (refused_alone elf a loaded x image)
+over_elf_is_one elf Over one a b (over_image loaded image x) (elf_refused y) = absurd (refused_alone elf b loaded y image)
+over_elf_is_one elf Over one a b (over_image loaded image x) (over_image loaded' image' y) =
+    let same : loaded ≡ loaded' = image_is_one elf loaded loaded' image.image image'.image in
+    one loaded' a b (subst (λ l. Over l a) same x) y
+
 long_alone : (hints : List ℕ) (found : Answer) → RefusesHints hints found → length hints ≤ MAX_FILE → ⊥
 long_alone hints found r short = omega (arith, r.long, short)
 
-ends_are_one : (elf hints : List ℕ) (limit : ℕ) (a b : Answer) → RunEnds elf hints limit a → RunEnds elf hints limit b → a ≡ b
-ends_are_one elf hints limit a b x y =
-    let loaded : x.loaded ≡ y.loaded = image_is_one elf x.loaded y.loaded x.image.image y.image.image in
-    let P : Loaded → Type 0 = λ l. IsRunEnd l hints limit x.end in
-    let end : x.end ≡ y.end = run_end_is_one y.loaded hints limit x.end y.end (subst P loaded x.ended) y.ended in
-    x.is ∙ ap (answer_of_end limit) end ∙ sym y.is
+run_answers_are_one : (hints : List ℕ) (limit : ℕ) (loaded : Loaded) (a b : Answer) → RunAnswers hints limit loaded a → RunAnswers hints limit loaded b → a ≡ b
+run_answers_are_one hints limit loaded a b (hints_refused x) (hints_refused y) = x.is ∙ sym y.is
+run_answers_are_one hints limit loaded a b (hints_refused x) (ended y) = absurd (long_alone hints a x y.short)
+run_answers_are_one hints limit loaded a b (ended x) (hints_refused y) = absurd (long_alone hints b y x.short)
+run_answers_are_one hints limit loaded a b (ended x) (ended y) =
+    x.is ∙ ap (answer_of_end limit) (run_end_is_one loaded hints limit x.end y.end x.ended y.ended) ∙ sym y.is
 
-pub run_answer_is_one : RunAnswerIsOne
-run_answer_is_one elf hints limit a b (elf_refused x) (elf_refused y) = refusal_answer_is_one elf a b x y
-run_answer_is_one elf hints limit a b (elf_refused x) (hints_refused loaded image y) = absurd (refused_alone elf a loaded x image)
-run_answer_is_one elf hints limit a b (elf_refused x) (ended y) = absurd (refused_alone elf a y.loaded x y.image)
-run_answer_is_one elf hints limit a b (hints_refused loaded image x) (elf_refused y) = absurd (refused_alone elf b loaded y image)
-run_answer_is_one elf hints limit a b (hints_refused loaded image x) (hints_refused loaded' image' y) = x.is ∙ sym y.is
-run_answer_is_one elf hints limit a b (hints_refused loaded image x) (ended y) = absurd (long_alone hints a x y.short)
-run_answer_is_one elf hints limit a b (ended x) (elf_refused y) = absurd (refused_alone elf b x.loaded y x.image)
-run_answer_is_one elf hints limit a b (ended x) (hints_refused loaded image y) = absurd (long_alone hints b y x.short)
-run_answer_is_one elf hints limit a b (ended x) (ended y) = ends_are_one elf hints limit a b x y
+pub answer_is_one : AnswerIsOne
+answer_is_one inputs None a b x y = x ∙ sym y
+answer_is_one inputs (Some (run elf hints steps)) a b x y =
+    over_elf_is_one (inputs Elf) (RunAnswers (inputs Second) steps) (run_answers_are_one (inputs Second) steps) a b x y
+answer_is_one inputs (Some (transpile elf)) a b x y = over_elf_is_one (inputs Elf) Lists (λ loaded c d p q. p ∙ sym q) a b x y
+answer_is_one inputs (Some (check elf tables)) a b x y =
+    over_elf_is_one (inputs Elf) (CheckAnswers (inputs Second)) (check_answers_are_one (inputs Second)) a b x y
+
+-- ---- told files
+
+-- an answer over the bytes that are told
+says_told : (content : Slot → List ℕ → Option (List ℕ)) (command : Option Command) (inputs told : Slot → List ℕ) (found : Answer)
+    → AreContents content (all_names command) inputs → AreTold content (all_names command) told → Says inputs command found → Says told command found
+says_told content None inputs told found c k says = says
+says_told content (Some (run elf hints steps)) inputs told found c k says =
+    subst (λ h. OverElf (told Elf) (RunAnswers h steps) found) (sym (told_is (content Second hints) (told Second) (inputs Second) k.1.0 c.1.0))
+    (subst (λ e. OverElf e (RunAnswers (inputs Second) steps) found) (sym (told_is (content Elf elf) (told Elf) (inputs Elf) k.0 c.0)) says)
+says_told content (Some (transpile elf)) inputs told found c k says =
+    subst (λ e. OverElf e Lists found) (sym (told_is (content Elf elf) (told Elf) (inputs Elf) k.0 c.0)) says
+says_told content (Some (check elf tables)) inputs told found c k says =
+    subst (λ h. OverElf (told Elf) (CheckAnswers h) found) (sym (told_is (content Second tables) (told Second) (inputs Second) k.1.0 c.1.0))
+    (subst (λ e. OverElf e (CheckAnswers (inputs Second)) found) (sym (told_is (content Elf elf) (told Elf) (inputs Elf) k.0 c.0)) says)
 
 -- a call without a fault says the one answer that its words can have
-pub answered_by : (command : Option Command) (old new : HostState) (result : Status) (found : Answer) → Outcome command old new result → (Rose old.faults new.faults → ⊥) → ((other : Answer) → Says old.content command other → other ≡ found) → IsAnswered old new result found
-answered_by command old new result found (answered other says is text) quiet one =
+answered_by : (inputs : Slot → List ℕ) (command : Option Command) (old new : HostState) (result : Status) (found : Answer) → Outcome inputs command old new result
+    → (Rose old.faults new.faults → ⊥) → ((other : Answer) → Says inputs command other → other ≡ found) → IsAnswered old new result found
+answered_by inputs command old new result found (answered other says is text leaves) quiet one =
     let same = one other says in
     inr (is ∙ ap status_of same, text ∙ ap (λ x. then_more old.said (text_of x)) same)
-answered_by command old new result found (fault is rose part) quiet one = absurd (quiet rose)
-answered_by command old new result found (memory is part) quiet one = inl is
+answered_by inputs command old new result found (fault is rose part leaves) quiet one = absurd (quiet rose)
+answered_by inputs command old new result found (memory is part leaves) quiet one = inl is
 
--- the answer over files that are told
-run_is : (told given : Option (List ℕ)) (e h : List ℕ) (steps : ℕ) (found other : Answer) → told ≡ Some e → given ≡ Some h → RunAnswers e h steps found → RunSays told given steps other → other ≡ found
-run_is told given e h steps found other p q is says =
-    let one : e ≡ says.elf_bytes = told_is told e says.elf_bytes p says.elf_told in
-    let two : h ≡ says.hint_bytes = told_is given h says.hint_bytes q says.hints_told in
-    run_answer_is_one e h steps other found (rw (one, two) says.is) is
+pub is_determined : Determined
+is_determined command old new result told found a contents quiet is =
+    answered_by a.inputs command old new result found a.outcome quiet
+    (λ other says. answer_is_one told command other found (says_told old.content command a.inputs told other a.contents contents says) is)
 
-pub run_is_determined : RunIsDetermined
-run_is_determined old new result elf hints e h steps found a p q quiet is =
-    answered_by (Some (run elf hints steps)) old new result found a.outcome quiet
-    (λ other says. run_is (old.content Elf elf) (old.content Second hints) e h steps found other p q is says)
+-- a command that succeeds says so
+success_says : (inputs : Slot → List ℕ) (command : Command) (found : Answer) → Succeeds inputs command found → Says inputs (Some command) found × (status_of found ≡ status.Done)
+success_says inputs (run elf hints steps) found x =
+    (over_image x.loaded x.image (ended (record { short = x.short; end = Ended x.steps x.code x.public_bytes; ended = (x.within, x.ends); is = x.is })), ap status_of x.is)
+success_says inputs (transpile elf) found x = (over_image x.loaded x.image x.lists, ap status_of x.lists)
+success_says inputs (check elf tables) found x = (over_image x.loaded x.image (accepted_says (inputs Elf) (inputs Second) found x), ap status_of x.is)
 
--- where the ELF file is told and refused with an answer, it is this one
-refusal_is_said : (old new : HostState) (result : Status) (elf hints e : List ℕ) (steps : ℕ) (found : Answer) → Outcome (Some (run elf hints steps)) old new result → old.content Elf elf ≡ Some e → (Rose old.faults new.faults → ⊥) → RefusesElf e found → IsAnswered old new result found
-refusal_is_said old new result elf hints e steps found outcome p quiet why =
-    answered_by (Some (run elf hints steps)) old new result found outcome quiet
-    (λ other says.
-    let one : e ≡ says.elf_bytes = told_is (old.content Elf elf) e says.elf_bytes p says.elf_told in
-    let P : List ℕ → Type 0 = λ bytes. RefusesElf bytes found in
-    run_answer_is_one says.elf_bytes says.hint_bytes steps other found says.is (elf_refused (subst P one why)))
+pub is_complete : Complete
+is_complete command old new result told found a contents quiet x =
+    let says = success_says told command found x in
+    (says.1, is_determined (Some command) old new result told found a contents quiet says.0)
 
-pub refused_elf_is_said : RefusedElfIsSaid
-refused_elf_is_said old new result elf hints e steps error a p quiet short r =
-    refusal_is_said old new result elf hints e steps (answer.ElfRefused error) a.outcome p quiet (refused error short r refl)
+-- ---- refused files
 
-pub long_elf_is_said : LongElfIsSaid
-long_elf_is_said old new result elf hints e steps a p quiet long =
-    refusal_is_said old new result elf hints e steps answer.ElfTooLong a.outcome p quiet (too_long long refl)
+-- a refused ELF file is answered, whatever the others are
+refusal_says : (inputs : Slot → List ℕ) (command : Option Command) (elf : List ℕ) (others : List (Place × List ℕ)) (refusal : Answer)
+    → all_names command ≡ (place.Elf, elf) ∷ others → RefusesElf (inputs Elf) refusal → Says inputs command refusal
+refusal_says inputs None elf others refusal names why = absurd (cc (names))
+refusal_says inputs (Some (run name hints steps)) elf others refusal names why = elf_refused why
+refusal_says inputs (Some (transpile name)) elf others refusal names why = elf_refused why
+refusal_says inputs (Some (check name tables)) elf others refusal names why = elf_refused why
 
-pub run_is_complete : RunIsComplete
-run_is_complete old new result elf hints e h shown limit steps code loaded a p q quiet elf_short image short within ends =
-    run_is_determined old new result elf hints e h limit (answer.Exit code shown steps) a p q quiet
-    (ended (record { loaded = loaded; image = record { short = elf_short; image = image }; short = short; end = Ended steps code shown; ended = (within, ends); is = refl }))
+-- the ELF file is the one that is told
+elf_is : (content : Slot → List ℕ → Option (List ℕ)) (inputs : Slot → List ℕ) (names others : List (Place × List ℕ)) (elf bytes : List ℕ)
+    → AreContents content names inputs → names ≡ (place.Elf, elf) ∷ others → content Elf elf ≡ Some bytes → bytes ≡ inputs Elf
+elf_is content inputs names others elf bytes contents is told =
+    let all : AreContents content ((place.Elf, elf) ∷ others) inputs = subst (λ n. AreContents content n inputs) is contents in
+    told_is (content Elf elf) bytes (inputs Elf) told all.0
 
-lists_are_one : (elf : List ℕ) (a b : Answer) → Lists elf a → Lists elf b → a ≡ b
-lists_are_one elf a b x y =
-    let loaded : x.loaded ≡ y.loaded = image_is_one elf x.loaded y.loaded x.image.image y.image.image in
-    x.is ∙ ap (λ l. answer.Listing (program_of l)) loaded ∙ sym y.is
+pub refused_elf_decides : RefusedElfDecides
+refused_elf_decides command old new result elf bytes others refusal a names told why =
+    let same : bytes ≡ a.inputs Elf = elf_is old.content a.inputs (all_names command) others elf bytes a.contents names told in
+    let refused_here : RefusesElf (a.inputs Elf) refusal = subst (λ e. RefusesElf e refusal) same why in
+    let says = refusal_says a.inputs command elf others refusal names refused_here in (
+      alone refused_here (a.elf_first elf others names),
+      λ quiet. answered_by a.inputs command old new result refusal a.outcome quiet (λ other other_says. answer_is_one a.inputs command other refusal other_says says),
+    )
+  where
+    alone : RefusesElf (a.inputs Elf) refusal → OpensElfAlone elf old new ⊎ ((loaded : Loaded) × GivesImage (a.inputs Elf) loaded) → OpensElfAlone elf old new
+    alone refused_here (inl opens) = opens
+    alone refused_here (inr image) = absurd (refused_alone (a.inputs Elf) refusal image.0 refused_here image.1)
 
-pub transpile_answer_is_one : TranspileAnswerIsOne
-transpile_answer_is_one elf a b (not_read x) (not_read y) = refusal_answer_is_one elf a b x y
-transpile_answer_is_one elf a b (not_read x) (listed y) = absurd (refused_alone elf a y.loaded x y.image)
-transpile_answer_is_one elf a b (listed x) (not_read y) = absurd (refused_alone elf b x.loaded y x.image)
-transpile_answer_is_one elf a b (listed x) (listed y) = lists_are_one elf a b x y
-
-pub transpile_is_determined : TranspileIsDetermined
-transpile_is_determined old new result elf e found a p quiet is =
-    answered_by (Some (transpile elf)) old new result found a.outcome quiet
-    (λ other says.
-    let one : e ≡ says.elf_bytes = told_is (old.content Elf elf) e says.elf_bytes p says.elf_told in
-    transpile_answer_is_one e other found (rw one says.is) is)
+-- ---- faults
 
 no_fault_answer : (found : Answer) → status.HostFault ≡ status_of found → ⊥
 no_fault_answer answer.Words e = cc
@@ -154,10 +195,10 @@ no_fault_answer (answer.Rejected reason) e = cc
 no_fault_answer (answer.Trapped trap) e = cc
 no_fault_answer (answer.StepLimit limit) e = cc
 
-fault_is_counted : (command : Option Command) (old new : HostState) → Outcome command old new status.HostFault → Rose old.faults new.faults
-fault_is_counted command old new (answered found says is text) = absurd (no_fault_answer found is)
-fault_is_counted command old new (fault is rose part) = rose
-fault_is_counted command old new (memory is part) = absurd (cc (is))
+fault_is_counted : (inputs : Slot → List ℕ) (command : Option Command) (old new : HostState) → Outcome inputs command old new status.HostFault → Rose old.faults new.faults
+fault_is_counted inputs command old new (answered found says is text leaves) = absurd (no_fault_answer found is)
+fault_is_counted inputs command old new (fault is rose part leaves) = rose
+fault_is_counted inputs command old new (memory is part leaves) = absurd (cc (is))
 
 pub fault_has_cause : FaultHasCause
-fault_has_cause command old new a = fault_is_counted command old new a.outcome
+fault_has_cause command old new a = fault_is_counted a.inputs command old new a.outcome

@@ -6,6 +6,7 @@ pub mod Runs
 pub mod Transpiles
 pub mod Checks
 pub mod Listings
+pub mod Verdicts
 pub mod Spoken
 pub mod LawLemmas
 pub mod CheckLaws

@@ -8,6 +8,7 @@ use Rattle.vm_host.specs.declared.Place.{Place}
 use Rattle.vm_host.specs.State.{HostState, then_more}
 use Rattle.vm_tool.specs.ReadFile.{Quiet}
 use Rattle.vm_tool.specs.Files.{IsContent}
+use Rattle.vm_tool.specs.Outcome.{WritesNothing}
 
 pub more_both : {A : Type 0} (told : Option (List A)) (xs ys : List A) → then_more (then_more told xs) ys ≡ then_more told (xs ++ ys)
 more_both None xs ys = refl
@@ -31,11 +32,13 @@ quiet_both s t u xs ys a b = record {
 pub same_content : (s t : HostState) (names : List (Place × List ℕ)) → Quiet s t names → t.content ≡ s.content
 same_content s t names q = ap (λ (y : HostState). y.content) q.frame
 
-pub same_output : (s t : HostState) (names : List (Place × List ℕ)) → Quiet s t names → t.output ≡ s.output
-same_output s t names q = ap (λ (y : HostState). y.output) q.frame
-
 pub same_said : (s t : HostState) (names : List (Place × List ℕ)) → Quiet s t names → t.said ≡ s.said
 same_said s t names q = ap (λ (y : HostState). y.said) q.frame
+
+-- calls that only read write nothing
+pub writes_nothing : (s t : HostState) (names : List (Place × List ℕ)) → Quiet s t names → WritesNothing s t
+writes_nothing s t names q =
+    q.frame ∙ ap (λ said. record s { faults = t.faults; input = t.input; said = said; named = t.named }) (sym (same_said s t names q))
 
 -- what is told of a file after calls that only read was told before
 pub told_before : (s t : HostState) (names : List (Place × List ℕ)) (slot : Slot) (name bytes : List ℕ) → Quiet s t names → IsContent (t.content slot name) bytes → IsContent (s.content slot name) bytes

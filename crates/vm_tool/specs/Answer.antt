@@ -7,6 +7,8 @@ use Rattle.elf_image.specs.declared.ImageError.{ImageError}
 use Rattle.elf_image.specs.declared.ImageError.TheVariants as image
 use Rattle.rv_run.specs.declared.outcome.Cause.{Cause}
 use Rattle.rv_run.specs.declared.outcome.Cause.TheVariants as cause
+use Rattle.vm_host.specs.declared.HostError.{HostError}
+use Rattle.vm_host.specs.declared.HostError.TheVariants as host
 use Rattle.vm_checker.specs.declared.Reason.{Reason}
 use Rattle.vm_checker.specs.declared.Reason.TheVariants as reason
 use Rattle.vm_tool.specs.declared.answer.Answer.{Answer}
@@ -54,6 +56,11 @@ status_of (answer.Accepted accepted) = status.Done
 status_of (answer.Rejected reason) = status.Rejected
 status_of (answer.Trapped trap) = status.Trapped
 status_of (answer.StepLimit limit) = status.Limit
+
+-- the status where the host failed, or memory was refused
+abbrev pub status_of_error : HostError → Status
+status_of_error host.Failed = status.HostFault
+status_of_error host.OutOfMemory = status.NoMemory
 
 -- 64 public bytes as 128 digits, with the exit code and the number of steps
 abbrev pub line_of_exit : ℕ → List ℕ → ℕ → List ℕ

@@ -1,36 +1,34 @@
 -- The answer to `check`.
-use Rattle.std.specs.Prelude.{◌≡◌, ℕ, List, Option}
+use Rattle.std.specs.Prelude.{◌≡◌, ℕ, List, length}
 use Rattle.elf_image.specs.Loaded.{Loaded}
 use Rattle.air_core.specs.Nop.{nop_sheet}
+use Rattle.table_format.specs.File.{FileValue, IsFile, spelling}
+use Rattle.vm_transpile.specs.Program.{program_of}
 use Rattle.vm_checker.specs.declared.Verdict.{Verdict}
 use Rattle.vm_checker.specs.declared.Verdict.TheVariants as verdict
-use Rattle.vm_checker.specs.Verdicts.{Judges}
+use Rattle.vm_checker.specs.Accepts.{Accepts}
+use Rattle.vm_checker.specs.Verdicts.{Judges, acceptance_of}
 use Rattle.vm_tool.specs.declared.answer.Answer.{Answer}
 use Rattle.vm_tool.specs.declared.answer.Answer.TheVariants as answer
-use Rattle.vm_tool.specs.Files.{IsContent, GivesImage, RefusesElf}
+use Rattle.vm_tool.specs.Files.{GivesImage}
 
 abbrev pub answer_of_verdict : Verdict → Answer
 answer_of_verdict (verdict.Accepted accepted) = answer.Accepted accepted
 answer_of_verdict (verdict.Rejected reason) = answer.Rejected reason
 
--- the ELF file has an image, and this is the verdict on the table file: its one table is that of the
--- no-operation, with times of 24 bits
-pub record IsJudged (elf tables : List ℕ) (found : Answer) : Type 0 where
-  pub loaded : Loaded
-  pub image : GivesImage elf loaded
+-- The answer to `check` over an image and a table file of these bytes: the verdict on them. The file's one
+-- table is that of the no-operation, with times of 24 bits.
+pub record CheckAnswers (tables : List ℕ) (loaded : Loaded) (found : Answer) : Type 0 where
   pub verdict : Verdict
   pub judges : Judges (nop_sheet 8) loaded tables verdict
   pub is : found ≡ answer_of_verdict verdict
 
--- the answer to `check` over files of these bytes
-pub data CheckAnswers (elf tables : List ℕ) (found : Answer) : Type 0 where
-  elf_not_read : RefusesElf elf found → CheckAnswers elf tables found
-  judged : IsJudged elf tables found → CheckAnswers elf tables found
-
--- the same over files of which a host may tell the bytes: there are such bytes
-pub record CheckSays (elf tables : Option (List ℕ)) (found : Answer) : Type 0 where
-  pub elf_bytes : List ℕ
-  pub table_bytes : List ℕ
-  pub elf_told : IsContent elf elf_bytes
-  pub tables_told : IsContent tables table_bytes
-  pub is : CheckAnswers elf_bytes table_bytes found
+-- the table file's claim is accepted, and what it states is answered
+pub record CheckSucceeds (elf tables : List ℕ) (found : Answer) : Type 0 where
+  pub loaded : Loaded
+  pub image : GivesImage elf loaded
+  pub value : FileValue
+  pub file : IsFile (length (program_of loaded)) value
+  pub spelled : tables ≡ spelling value
+  pub accepts : Accepts (nop_sheet 8) (program_of loaded) loaded.entry value
+  pub is : found ≡ answer.Accepted (acceptance_of value.exit_code)

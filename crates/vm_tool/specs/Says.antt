@@ -1,4 +1,4 @@
--- The answer to the words.
+-- The answer to the words, over files of these bytes.
 use Rattle.std.specs.Prelude.{◌≡◌, ℕ, List, None, Some}
 use Rattle.std.specs.declared.option.Option.{Option}
 use Rattle.vm_host.specs.declared.Slot.{Slot}
@@ -6,13 +6,20 @@ use Rattle.vm_host.specs.declared.Slot.TheVariants.{Elf, Second}
 use Rattle.vm_tool.specs.declared.answer.Answer.{Answer}
 use Rattle.vm_tool.specs.declared.answer.Answer.TheVariants as answer
 use Rattle.vm_tool.specs.Command.{Command, run, transpile, check}
-use Rattle.vm_tool.specs.RunCommand.{RunSays}
-use Rattle.vm_tool.specs.TranspileCommand.{TranspileSays}
-use Rattle.vm_tool.specs.CheckCommand.{CheckSays}
+use Rattle.vm_tool.specs.Files.{OverElf}
+use Rattle.vm_tool.specs.RunCommand.{RunAnswers, RunSucceeds}
+use Rattle.vm_tool.specs.TranspileCommand.{Lists, TranspileSucceeds}
+use Rattle.vm_tool.specs.CheckCommand.{CheckAnswers, CheckSucceeds}
 
--- what the words are answered with; words of no command are said to be so
-abbrev pub Says : (Slot → List ℕ → Option (List ℕ)) → Option Command → Answer → Type 0
-Says content None found = found ≡ answer.Words
-Says content (Some (run elf hints steps)) found = RunSays (content Elf elf) (content Second hints) steps found
-Says content (Some (transpile elf)) found = TranspileSays (content Elf elf) found
-Says content (Some (check elf tables)) found = CheckSays (content Elf elf) (content Second tables) found
+-- what the words are answered with, where the inputs have these bytes; words of no command are said to be so
+abbrev pub Says : (Slot → List ℕ) → Option Command → Answer → Type 0
+Says inputs None found = found ≡ answer.Words
+Says inputs (Some (run elf hints steps)) found = OverElf (inputs Elf) (RunAnswers (inputs Second) steps) found
+Says inputs (Some (transpile elf)) found = OverElf (inputs Elf) Lists found
+Says inputs (Some (check elf tables)) found = OverElf (inputs Elf) (CheckAnswers (inputs Second)) found
+
+-- where a command can do what it is for, and what it then answers
+abbrev pub Succeeds : (Slot → List ℕ) → Command → Answer → Type 0
+Succeeds inputs (run elf hints steps) found = RunSucceeds (inputs Elf) (inputs Second) steps found
+Succeeds inputs (transpile elf) found = TranspileSucceeds (inputs Elf) found
+Succeeds inputs (check elf tables) found = CheckSucceeds (inputs Elf) (inputs Second) found

@@ -1,12 +1,13 @@
 // What the program answers: a status and a line.
 ghost use Rattle.std.specs.Prelude.{◌≡◌, IfOk, string_bytes};
 ghost use Rattle.vm_tool.specs.Listing.{line_of_row, listing_of};
-ghost use Rattle.vm_tool.specs.Answer.{status_of, text_of, refusal_text, cause_text, reason_text, line_of_exit, line_of_accepted, code_of};
+ghost use Rattle.vm_tool.specs.Answer.{status_of, status_of_error, text_of, refusal_text, cause_text, reason_text, line_of_exit, line_of_accepted, code_of};
 
 use elf_image::ImageError;
 use rv_run::{Cause, Trap};
 use std::alloc::{AllocError, Global};
 use vm_checker::{Accepted, Reason};
+use vm_host::HostError;
 use vm_isa::VmInstr;
 use vm_transpile::Program;
 
@@ -69,8 +70,18 @@ pub enum Answer {
 #[derive(Drop)]
 pub enum Halt {
     Found(Answer),
-    Fault,
-    Memory,
+    Host(HostError),
+}
+
+impl From<HostError> for Status {
+    ghost from_gives = { λ error status. status ≡ status_of_error error };
+
+    fn from(error: HostError) -> Status {
+        match error {
+            HostError::Failed => Status::HostFault,
+            HostError::OutOfMemory => Status::NoMemory,
+        }
+    }
 }
 
 impl Answer {

@@ -78,6 +78,6 @@ fn parse_four<'a>(name: &str, first: &'a str, second: &'a str, third: &str) -> O
 fn parse_run<'a>(elf: &'a str, hints: &'a str, steps: &str) -> Option<Form<'a>>
     ensures { Means (codes "run" ∷ elf.now ∷ hints.now ∷ steps.now ∷ []) (option_map command_of result) }
 {
-    let steps = parse_number(steps, MAX_STEPS)?;
+    let steps = parse_number(steps, 0, MAX_STEPS)?;
     Some(Form::Run { elf, hints, steps })
 }

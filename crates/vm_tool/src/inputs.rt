@@ -18,8 +18,7 @@ pub fn open<H: Host>(slot: Slot, name: &str, host: &mut H) -> Result<(), Halt>
 {
     match host.open_input(slot, name) {
         Ok(()) => Ok(()),
-        Err(HostError::Failed) => Err(Halt::Fault),
-        Err(HostError::OutOfMemory) => Err(Halt::Memory),
+        Err(error) => Err(Halt::Host(error)),
     }
 }
 
@@ -37,8 +36,8 @@ fn read_file<H: Host>(
     match read_up_to(alloc, host, slot, MAX_LENGTH) {
         Ok(bytes) => Ok(bytes),
         Err(ReadError::TooLong) => Err(Halt::Found(long)),
-        Err(ReadError::Fault) => Err(Halt::Fault),
-        Err(ReadError::OutOfMemory) => Err(Halt::Memory),
+        Err(ReadError::Fault) => Err(Halt::Host(HostError::Failed)),
+        Err(ReadError::OutOfMemory) => Err(Halt::Host(HostError::OutOfMemory)),
     }
 }
 
@@ -58,7 +57,7 @@ fn image_halt(error: ImageError) -> Halt
     ensures { result ≡ halt_of_image error }
 {
     match error {
-        ImageError::OutOfMemory => Halt::Memory,
+        ImageError::OutOfMemory => Halt::Host(HostError::OutOfMemory),
         refusal => Halt::Found(Answer::ElfRefused(refusal)),
     }
 }

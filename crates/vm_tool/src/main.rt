@@ -15,9 +15,8 @@ mod transpile_command;
 
 pub use answer::{Answer, Status};
 pub use laws::{
-    accepted_is_a_run, check_answer_is_one, check_is_complete, check_is_determined,
-    fault_has_cause, long_elf_is_said, meaning_is_one, refused_elf_is_said, run_answer_is_one,
-    run_is_complete, run_is_determined, transpile_answer_is_one, transpile_is_determined,
+    accepted_is_a_run, answer_is_one, fault_has_cause, is_complete, is_determined, meaning_is_one,
+    refused_elf_decides,
 };
 use std::alloc::AllocError;
 use std::process::ExitCode;

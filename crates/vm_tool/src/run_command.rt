@@ -8,7 +8,7 @@ use crate::answer::{Answer, Halt};
 use crate::inputs::{read_elf, read_hints};
 use rv_run::{RunEnd, run as run_machine};
 use std::alloc::Global;
-use vm_host::Host;
+use vm_host::{Host, HostError};
 
 /// Runs the ELF file on the hint file.
 pub fn find_run<H: Host>(
@@ -24,7 +24,7 @@ pub fn find_run<H: Host>(
     let given = read_hints(alloc, hints, host)?;
     match run_machine(alloc, &image, given, steps) {
         Ok(end) => Ok(answer_of(end, steps)),
-        Err(_) => Err(Halt::Memory),
+        Err(_) => Err(Halt::Host(HostError::OutOfMemory)),
     }
 }
 

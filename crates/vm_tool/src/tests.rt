@@ -482,10 +482,20 @@ fn refused_files(rt: HostRuntime) -> Result<(), Fail> {
     cut.pop();
     says(&rt, cut, line, Status::ElfRefused, "elf truncated\n")?;
 
-    let elf = elf_of(alloc, &PUBLIC_SEVEN)?;
-    says(&rt, elf, "run missing hints 10", Status::HostFault, "")?;
-    let elf = elf_of(alloc, &PUBLIC_SEVEN)?;
-    says(&rt, elf, "run elf missing 10", Status::HostFault, "")
+    for line in [
+        "run missing hints 10",
+        "run elf missing 10",
+        "check elf missing",
+    ] {
+        let elf = elf_of(alloc, &PUBLIC_SEVEN)?;
+        says(&rt, elf, line, Status::HostFault, "")?;
+    }
+    // the ELF file is refused before the second file is opened
+    for line in ["run elf missing 10", "check elf missing"] {
+        let refused = changed(alloc, 0, 0)?;
+        says(&rt, refused, line, Status::ElfRefused, "elf magic\n")?;
+    }
+    Ok(())
 }
 
 #[test]

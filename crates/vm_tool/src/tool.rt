@@ -11,7 +11,7 @@ use crate::command::{Form, parse_words};
 use crate::run_command::find_run;
 use crate::transpile_command::find_transpile;
 use std::alloc::Global;
-use vm_host::{Host, HostError};
+use vm_host::Host;
 
 /// Does what the words say, and answers the status. The words are those after the program's name.
 pub fn openvm<H: Host>(alloc: Global, words: &[String], host: &mut H) -> Status
@@ -26,8 +26,7 @@ fn perform<H: Host>(alloc: Global, form: Option<Form>, host: &mut H) -> Status
 {
     match find(alloc, form, host) {
         Halt::Found(answer) => say(alloc, &answer, host),
-        Halt::Fault => Status::HostFault,
-        Halt::Memory => Status::NoMemory,
+        Halt::Host(error) => Status::from(error),
     }
 }
 
@@ -61,7 +60,6 @@ fn say<H: Host>(alloc: Global, answer: &Answer, host: &mut H) -> Status
     };
     match host.say(text.as_bytes()) {
         Ok(()) => answer.status(),
-        Err(HostError::Failed) => Status::HostFault,
-        Err(HostError::OutOfMemory) => Status::NoMemory,
+        Err(error) => Status::from(error),
     }
 }

@@ -6,7 +6,7 @@ ghost use Rattle.vm_tool.specs.Outcome.{Finds, halt_of};
 use crate::answer::{Answer, Halt};
 use crate::inputs::read_elf;
 use std::alloc::Global;
-use vm_host::Host;
+use vm_host::{Host, HostError};
 use vm_transpile::transpile as transpile_image;
 
 /// Lists the program rows of the ELF file.
@@ -16,6 +16,6 @@ pub fn find_transpile<H: Host>(alloc: Global, elf: &str, host: &mut H) -> Result
     let image = read_elf(alloc, elf, host)?;
     match transpile_image(alloc, &image) {
         Ok(program) => Ok(Answer::Listing(program)),
-        Err(_) => Err(Halt::Memory),
+        Err(_) => Err(Halt::Host(HostError::OutOfMemory)),
     }
 }

@@ -23,10 +23,11 @@ use Rattle.gadget_time.specs.Told.{gap_filled, MadeBy, MadeByAll, made}
 use Rattle.gadget_time.specs.lemmas.Filled.{gap_below}
 use Rattle.adapter_regs.specs.declared.regs.Regs.{Regs}
 use Rattle.adapter_regs.specs.Regs.{regs_touches, first_touch, second_touch, third_touch, regs_numbers, immediate_constraints, last_access, right_filled, second_filled, new_filled, regs_filled, regs_cells, time_cells, gap_cells}
-use Rattle.adapter_regs.specs.Results.{is_register, result}
+use Rattle.vm_isa.specs.Opcodes.{is_register}
+use Rattle.vm_isa.specs.Results.{result}
 use Rattle.adapter_regs.specs.Core.{IsResultOf}
-use Rattle.adapter_regs.specs.lemmas.Opcodes.{three_slots, named}
-use Rattle.adapter_regs.specs.lemmas.Meaning.{writes, result_word, WordShape, ImmShape, word_shape, imm_shape}
+use Rattle.vm_isa.proofs.RegisterForm.{register_slots, named}
+use Rattle.vm_isa.proofs.RegisterForm.{writes, result_word, WordShape, ImmShape, word_shape, imm_shape}
 
 -- What columns are that were filled from a record of an opcode of the form.
 pub record RegsFilled (op : ℕ) (r : Regs ℕ) (new : Limbs ℕ) : Type 0 where
@@ -258,7 +259,7 @@ columns_of_imm hi done top ends f s =
 
 pub columns_filled : (hi : ℕ) (done : StepRecord) → hi ≤ 13 → Fillable (16 + hi) done → is_register done.instr.op ≡ true → FilledColumns hi done (regs_filled done) (new_filled done)
 columns_filled hi done top f register =
-    let ends : done.time + 3 ≤ 2 ^ (16 + hi) = omega (arith, f.ends, three_slots done.instr.op register) in
+    let ends : done.time + 3 ≤ 2 ^ (16 + hi) = omega (arith, f.ends, register_slots done.instr.op register) in
     ⊎_elim
     (λ (word : done.instr.use_imm ≡ true).
     let s = imm_shape done.instr done.time done.next done.accesses f.given f.meaning register word f.means f.next f.accesses in

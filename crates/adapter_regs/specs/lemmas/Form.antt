@@ -1,10 +1,11 @@
 -- A core with its laws is a form with its laws.
 use Rattle.std.proofs.Common.{◌≡◌, ◌≢◌, ℕ, zero, suc, ◌+◌, ◌*◌, ◌^◌, ◌<◌, ◌≤◌, Bool, true, false, cond, ◌||◌, nat_eq, List, [], ◌∷◌, ◌++◌, length, map, replicate, slice_index, refl, sym, ap, subst, ◌∙◌, arith, lit≤, lit<, length-append}
 use Rattle.std.specs.List.{AllByRecursion}
+use Rattle.std.proofs.lemmas.Bool.Decides.{nat_tests}
 use Rattle.vm_word.specs.Word.{word_of_limbs, limbs_of}
 use Rattle.vm_isa.specs.declared.record.StepRecord.{StepRecord}
 use Rattle.vm_isa.specs.Slots.{slots_of}
-use Rattle.vm_isa.specs.Opcodes.{is_mul}
+use Rattle.vm_isa.specs.Opcodes.{is_mul, HINT, HINT_NEXT}
 use Rattle.vm_isa.specs.Words.{IsBytes}
 use Rattle.vm_isa.specs.Means.{Fillable}
 use Rattle.vm_field.specs.declared.limbs.Limbs.{Limbs}
@@ -28,8 +29,9 @@ use Rattle.gadget_time.specs.FormLaws.{FormLaws, FormBounds, IsOther, IsAt, Hold
 use Rattle.adapter_regs.specs.declared.regs.Regs.{Regs}
 use Rattle.adapter_regs.specs.Regs.{regs_of, words_from, limbs_of_zero, regs_touches, first_touch, second_touch, third_touch, regs_numbers, immediate_constraints, regs_filled, new_filled, regs_cells, time_cells}
 use Rattle.adapter_regs.specs.Core.{Core, CoreLaws, Operands, operands, operands_of, registers, regs_form, IsLookup, IsCoreAt, IsResult, IsResultOf, IsPlaced, IsGoodCore, no_operands, place_filled, own_filled, ACoreIsAForm}
-use Rattle.adapter_regs.specs.Results.{is_register, result}
-use Rattle.adapter_regs.specs.lemmas.Opcodes.{three_slots, apart, register_low}
+use Rattle.vm_isa.specs.Opcodes.{is_register}
+use Rattle.vm_isa.specs.Results.{result}
+use Rattle.vm_isa.proofs.RegisterForm.{register_slots, apart}
 use Rattle.adapter_regs.specs.lemmas.Sound.{touches_quiet, regs_tell, regs_mean}
 use Rattle.adapter_regs.specs.lemmas.Filled.{RegsFilled, FilledColumns, columns_filled, is_instruction, goes_on}
 
@@ -138,11 +140,14 @@ unfolding regs_cells
 cells_below_of true r h = h
 cells_below_of false r h = (h.0, (h.1.0, (h.1.1.0, all_right (λ x. x < 2013265921) (list_of r.imm) (list_of r.left ++ (list_of r.right ++ list_of r.old)) h.1.1.1.1)))
 
-apart_hints : (op : ℕ) → is_register op ≡ true → (nat_eq op 37 ≡ false) × (nat_eq op 42 ≡ false)
+register_low : (op : ℕ) → is_register op ≡ true → op < 2013265921
+register_low op h = let low = (apart op h).meant in grind (arith, nat_tests)
+
+apart_hints : (op : ℕ) → is_register op ≡ true → (nat_eq op HINT ≡ false) × (nat_eq op HINT_NEXT ≡ false)
 apart_hints op h = let a = apart op h in (a.hint, a.next_input)
 
 pub regs_no_hints : (core : Core) → CoreLaws core → NoHints (regs_form core)
-regs_no_hints core laws = each (λ op. is_register op ≡ true) (λ op. (nat_eq op 37 ≡ false) × (nat_eq op 42 ≡ false)) apart_hints core.opcodes laws.registers
+regs_no_hints core laws = each (λ op. is_register op ≡ true) (λ op. (nat_eq op HINT ≡ false) × (nat_eq op HINT_NEXT ≡ false)) apart_hints core.opcodes laws.registers
 
 module _ (core : Core) (laws : CoreLaws core) where
   other : (e : Event) → IsLookup e → IsOther true e
@@ -165,7 +170,7 @@ module _ (core : Core) (laws : CoreLaws core) where
         opcodes_below = each (λ op. is_register op ≡ true) (λ op. op < 2013265921) register_low core.opcodes laws.registers;
         slots_some = lit≤ tt;
         slots_few = lit≤ tt;
-        slots = each (λ op. is_register op ≡ true) (λ op. slots_of op ≡ 3) three_slots core.opcodes laws.registers;
+        slots = each (λ op. is_register op ≡ true) (λ op. slots_of op ≡ 3) register_slots core.opcodes laws.registers;
         narrow = omega (arith, laws.narrow, words_low core.immediates);
         few = λ c. omega (arith, laws.few_lookups (operands_of field core.immediates core.own c));
         others = λ c. each IsLookup (IsOther true) other _ (laws.lookups (operands_of field core.immediates core.own c));

@@ -29,8 +29,8 @@ use Rattle.gadget_time.specs.FormLaws.{IsAt, Holds, InstructionAt, Tells}
 use Rattle.adapter_regs.specs.declared.regs.Regs.{Regs}
 use Rattle.adapter_regs.specs.Regs.{regs_of, regs_touches, first_touch, second_touch, third_touch, regs_numbers, immediate_constraints}
 use Rattle.adapter_regs.specs.Core.{Core, CoreLaws, Operands, IsCoreAt, IsResult, operands_of, registers, regs_form}
-use Rattle.adapter_regs.specs.Results.{is_register}
-use Rattle.adapter_regs.specs.lemmas.Meaning.{result_word, means_word, means_imm}
+use Rattle.vm_isa.specs.Opcodes.{is_register}
+use Rattle.vm_isa.proofs.RegisterForm.{result_word, means_word, means_imm}
 
 -- the program tuple read as an instruction
 record IsInstr (r : Regs ℕ) (op : ℕ) (i : VmInstr) : Type 0 where

@@ -27,7 +27,7 @@ use Rattle.gadget_limbs.proofs.SumLaw.{sum_law_word}
 use Rattle.gadget_limbs.proofs.SumHolds.{sum_holds_word, sum_off}
 use Rattle.gadget_limbs.proofs.WordLookups.{Says, EachLimb, IsBitwise, IsNumber, looked_right, right_looked, bits_word, word_bits, is_xor, is_or, is_and, sums, xors, ors, ands, four_bytes, each_byte}
 use Rattle.adapter_regs.specs.Core.{Operands, CoreLaws, IsCoreAt, IsResult, IsResultOf, IsGoodCore, IsPlaced, IsLookup, no_operands}
-use Rattle.adapter_regs.specs.Results.{result}
+use Rattle.vm_isa.specs.Results.{result}
 use Rattle.chip_alu.specs.Alu.{alu_core, alu_opcodes, result_of, operation}
 
 -- what the opcodes make of two words

@@ -1,6 +1,7 @@
 -- The laws Timed and Sound of every form, and that its rows are no hints.
 use Rattle.std.proofs.Common.{◌≡◌, ◌≢◌, ℕ, zero, suc, ◌+◌, ◌<◌, ◌≤◌, ◌⊎◌, inl, inr, false, true, nat_eq, List, [], ◌∷◌, length, map, slice_index, refl, sym, ap, subst, ◌∙◌, arith}
 use Rattle.std.specs.List.{AllByRecursion}
+use Rattle.vm_isa.specs.Opcodes.{HINT, HINT_NEXT}
 use Rattle.vm_isa.specs.Instr.{IsInstruction, numbers_of}
 use Rattle.air_core.specs.Ring.{field, cells}
 use Rattle.air_core.specs.Sheet.{IsRow, RowHolds, AllZero, AllBelow, counted}
@@ -170,7 +171,7 @@ module _ (f : Form) (hi : ℕ) (laws : FormLaws f) where
       elim (set c (elements f row is.below) p.flags) [
         inl none ↦ subst NoHint (sym none) none_hint
         | inr s ↦
-          let no = at_place (λ op. (nat_eq op 37 ≡ false) × (nat_eq op 42 ≡ false)) f.opcodes s.place s.at.below others in
+          let no = at_place (λ op. (nat_eq op HINT ≡ false) × (nat_eq op HINT_NEXT ≡ false)) f.opcodes s.place s.at.below others in
           let is_op = op_at c s.place s.at.below s.at.flags in
           told_no_hint hi (told_by f c) (rw is_op no.0) (rw is_op no.1) (off c)
       ]

@@ -1,6 +1,7 @@
 use Rattle.std.proofs.lemmas.Result.{err_from_is_err_and}
 use Rattle.vm_checker.proofs.Nop.{nop_table}
-use Rattle.vm_tool.proofs.Checks.{elf_halts, tables_halt, check_found, check_fails, check_without_memory}
+use Rattle.vm_tool.proofs.Checks.{check_known, tables_halt, check_found, check_fails, check_without_memory}
+use Rattle.vm_tool.proofs.Stages.{elf_halts}
 use Rattle.vm_tool.proofs.check_command.find_check.Goals as goal
 
 pub check-requires-clause-table : goal.check-requires-clause-table
@@ -9,21 +10,25 @@ check-requires-clause-table g c = nop_table 8
 pub returns-in_err-image : goal.returns-in_err-image
 returns-in_err-image g c =
     let p = err_from_is_err_and c.from_residual.result c.from_residual.ensures.1 in
-    rw (p.1, p.2) (elf_halts _ _ _ _ _ c.in_err-image.ensures)
+    rw (p.1, p.2) (elf_halts _ _ _ (check_known _ _) _ _ _ c.in_err-image.ensures)
 
 pub returns-in_err-open : goal.returns-in_err-open
 returns-in_err-open g c =
     let p = err_from_is_err_and c.from_residual-in_err-open.result c.from_residual-in_err-open.ensures.1 in
-    rw (p.1, p.2) (tables_halt _ _ _ _ _ _ _ c.in_ok-image.ensures.1 c.in_err-open.ensures.refused)
+    let elf = c.in_ok-image.ensures in
+    rw (p.1, p.2) (tables_halt _ _ _ _ _ _ elf.1 elf.2 _ _ c.in_err-open.ensures.refused)
 
 pub returns-in-Ok : goal.returns-in-Ok
 returns-in-Ok g c =
     let elf = c.in_ok-image.ensures in
-    rw (c.answer_of.ensures) (check_found _ _ _ _ _ _ _ _ elf.1 c.in_ok-open.ensures.opened c.in-Ok.verdict elf.2 c.in-Ok.ensures)
+    rw (c.answer_of.ensures) (check_found _ _ _ _ _ _ elf.1 elf.2 _ _ c.in_ok-open.ensures.opened c.in-Ok.verdict c.in-Ok.ensures)
 
 pub returns-in-Err-Fault : goal.returns-in-Err-Fault
 returns-in-Err-Fault g c =
-    check_fails _ _ _ _ _ _ _ _ c.in_ok-image.ensures.1 c.in_ok-open.ensures.opened (rw c.in-Err-Fault.field-0-is at c.in-Err-Fault.ensures)
+    let elf = c.in_ok-image.ensures in
+    check_fails _ _ _ _ _ _ elf.1 elf.2 _ _ c.in_ok-open.ensures.opened (rw c.in-Err-Fault.field-0-is at c.in-Err-Fault.ensures)
 
 pub returns : goal.returns
-returns g c = check_without_memory _ _ _ _ _ _ _ _ c.in_ok-image.ensures.1 c.in_ok-open.ensures.opened c.check.ensures
+returns g c =
+    let elf = c.in_ok-image.ensures in
+    check_without_memory _ _ _ _ _ _ elf.1 elf.2 _ _ c.in_ok-open.ensures.opened c.check.ensures

@@ -15,7 +15,8 @@ returns-in-Err-TooLong g c =
 
 pub returns-in-Err-Fault : goal.returns-in-Err-Fault
 returns-in-Err-Fault g c =
-    (opened_for_nothing _ _ _ _ _ _ c.in_ok-open.ensures.opened c.read_up_to.ensures.took.1, rose_after _ _ _ c.in_ok-open.ensures.opened.quiet.later ((rw c.in-Err-Fault.field-0-is at c.in-Err-Fault.ensures).fault refl))
+    (opened_for_nothing _ _ _ _ _ _ c.in_ok-open.ensures.opened c.read_up_to.ensures.took.1, λ failed. rose_after _ _ _ c.in_ok-open.ensures.opened.quiet.later ((rw c.in-Err-Fault.field-0-is at c.in-Err-Fault.ensures).fault refl))
 
 pub returns-in-Err-OutOfMemory : goal.returns-in-Err-OutOfMemory
-returns-in-Err-OutOfMemory g c = opened_for_nothing _ _ _ _ _ _ c.in_ok-open.ensures.opened c.read_up_to.ensures.took.1
+returns-in-Err-OutOfMemory g c =
+    (opened_for_nothing _ _ _ _ _ _ c.in_ok-open.ensures.opened c.read_up_to.ensures.took.1, λ failed. absurd (cc (failed)))

@@ -1,4 +1,4 @@
-use Rattle.vm_tool.proofs.Spoken.{answers_spoken}
+use Rattle.vm_tool.proofs.Spoken.{answers_spoken, answers_broken}
 use Rattle.vm_tool.proofs.tool.perform.Goals as goal
 
 pub returns-in-Found : goal.returns-in-Found

@@ -1,5 +1,0 @@
-use Rattle.vm_tool.proofs.CheckLaws.{check_is_complete}
-use Rattle.vm_tool.proofs.laws.check_is_complete.Goals as goal
-
-pub returns : goal.returns
-returns c = check_is_complete
