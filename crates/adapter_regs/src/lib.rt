@@ -6,6 +6,7 @@ mod own;
 mod form;
 pub mod laws;
 mod put;
+pub mod records;
 mod regs;
 mod step;
 

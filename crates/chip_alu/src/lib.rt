@@ -7,6 +7,8 @@ ghost use Rattle.air_core.specs.Ring.{field};
 ghost use Rattle.chip_alu.specs.Alu.{sums_of, operation, result_of};
 
 pub mod laws;
+#[cfg(test)]
+mod tests;
 
 use adapter_regs::{RegsChip, RegsCore};
 use air_core::{EventSink, OutOfMemory, first, flag_sum};
