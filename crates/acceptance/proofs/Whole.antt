@@ -168,7 +168,7 @@ module _ (x : System) (fits : ExtensionFits x) (buses : ExtensionBuses x) (timed
   accepted_are_runs elf image file hints bytes has accepts spells =
       ⊎_elim
       (λ (ends : VmEnds (program_of image) (vm_start image (hints_before hints [])) (steps_in x file.segments) file.code file.public_bytes).
-      inl ((runs_end_alike elf image bytes has (hints_before hints []) (steps_in x file.segments) file.code file.public_bytes (before_bytes hints [] tt)).1 ends))
+      inl ((runs_end_alike image (record { bytes = elf; are_bytes = bytes; has_image = has }) (hints_before hints []) (steps_in x file.segments) file.code file.public_bytes (before_bytes hints [] tt)).1 ends))
       (λ (collision : Collides image file). inr collision)
       (accepted_on_blocks elf image file hints has accepts spells)
 

@@ -1,5 +1,5 @@
 -- What the searches of an image find.
-use Rattle.std.proofs.Common.{◌≡◌, ℕ, zero, suc, ◌+◌, ◌-◌, ◌<◌, ◌≤◌, true, false, List, [], ◌∷◌, length, get_or, slice_index, map, AllPairs, Option, None, Some, Less, Equal, Greater, nat_cmp, leb, leb-true, refl, sym, ap, ◌∙◌, arith, inl, inr}
+use Rattle.std.proofs.Common.{◌≡◌, ℕ, zero, suc, ◌+◌, ◌-◌, ◌<◌, ◌≤◌, true, false, List, [], ◌∷◌, length, get_or, slice_index, map, AllPairs, Option, None, Some, Less, Equal, Greater, nat_cmp, leb, leb-true, refl, sym, ap, subst, slice_get, ◌∙◌, arith, inl, inr}
 use Rattle.std.specs.Ordering.{ordering_index}
 use Rattle.std.specs.List.Sorted.{IsNonDecreasingBy, IsPartitionPoint}
 use Rattle.std.proofs.lemmas.Bool.{cases_lt, cases_order}
@@ -7,7 +7,8 @@ use Rattle.std.proofs.lemmas.Bool.Decides.{nat_tests}
 use Rattle.std.proofs.lemmas.Cmp.{ranked}
 use Rattle.elf_image.specs.declared.headers.ProgramHeader.{ProgramHeader}
 use Rattle.elf_image.specs.declared.TextWord.{TextWord}
-use Rattle.elf_image.specs.Loaded.{Load, byte_in, text_below}
+use Rattle.std.proofs.lemmas.Option.{get_or_from_slice_get, slice_get_within}
+use Rattle.elf_image.specs.Loaded.{Load, IsPlace, byte_in, text_below}
 use Rattle.elf_image.specs.Image.{load_of}
 use Rattle.elf_image.specs.Layout.{Begun, follow}
 use Rattle.elf_image.proofs.Members.{In, in_at, place_in, in_map, map_in}
@@ -103,6 +104,9 @@ module _ (file : List ℕ) (headers : List ProgramHeader) (follows : follow 0 he
             ]
           ])
 
+pub at_pc : (a pc : ℕ) → nat_cmp a pc ≡ Equal → a ≡ pc
+at_pc a pc equal = ranked a pc Equal (sym equal)
+
 module _ (w : Words) (n pc : ℕ) where
   pub found_word : (place : ℕ) (t : TextWord) → place < length (text_below w n) → t ≡ get_or (text_below w n) place t → nat_cmp t.pc pc ≡ Equal → Some t.word ≡ w pc
   found_word place t within is equal =
@@ -130,3 +134,26 @@ module _ (w : Words) (n pc : ℕ) where
               let greater : pc < (get_or (text_below w n) at.0 t).pc = ranked _ pc Greater (sym ((parted rises).1 at.0 t above at.1)) in
               absurd (omega arith)
         ]
+
+  pub found_place : (place : ℕ) (t : TextWord) → slice_get (text_below w n) place ≡ Some t → t.pc ≡ pc → IsPlace (text_below w n) pc (w pc) (Some place)
+  found_place place t at same =
+      let within = slice_get_within (text_below w n) place t at in
+      let is : get_or (text_below w n) place t ≡ t = get_or_from_slice_get (text_below w n) place t t at in
+      let h : In t (text_below w n) = subst (λ (x : TextWord). In x (text_below w n)) is (in_at (text_below w n) place t within) in
+      let stand = text_stands w n t h in
+      let word : w pc ≡ Some t.word = subst (λ (p : ℕ). w p ≡ Some t.word) same stand.1 in
+      let whole : t ≡ record { pc = pc; word = t.word } = ap (λ (p : ℕ). record { pc = p; word = t.word }) same in
+      rw word (at ∙ ap Some whole)
+
+  pub no_place : None ≡ w pc → IsPlace (text_below w n) pc (w pc) None
+  no_place e = rw (← e) tt
+
+-- what a place says
+pub placed : (text : List TextWord) (pc : ℕ) (word : Option ℕ) (place : ℕ) → IsPlace text pc word (Some place)
+    → (w : ℕ) × (word ≡ Some w) × (slice_get text place ≡ Some (record { pc = pc; word = w }))
+placed text pc None place h = absurd h
+placed text pc (Some w) place h = (w, refl, h)
+
+pub not_placed : (text : List TextWord) (pc : ℕ) (word : Option ℕ) → IsPlace text pc word None → word ≡ None
+not_placed text pc None h = refl
+not_placed text pc (Some w) h = absurd h

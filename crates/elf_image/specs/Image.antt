@@ -1,5 +1,6 @@
 -- The image of a file, and where a file has none.
 use Rattle.std.specs.Prelude.{◌≡◌, ◌≢◌, ℕ, ◌+◌, ◌*◌, ◌^◌, ◌<◌, ◌⊎◌, Bool, ◌&&◌, nat_le, nat_lt, List, [], ◌∷◌, length, take, slice_index, slice_range, map, filter, count_by, Any, AllPairs, None, IsBitSet, bit_and, not, ◌==◌, IsPermutation}
+use Rattle.vm_word.specs.Bytes.{IsBytes}
 use Rattle.elf_image.specs.declared.ImageError.{ImageError}
 use Rattle.elf_image.specs.declared.ImageError.TheVariants.{Short, Magic, Class, Order, FileType, Machine, Compressed, HeaderSize, HeaderTable, SegmentSize, Truncated, Range, Overlap, TextSize, Entry, OutOfMemory}
 use Rattle.elf_image.specs.declared.headers.ProgramHeader.{ProgramHeader}
@@ -87,3 +88,9 @@ pub record HasImage (bytes : List ℕ) (loaded : Loaded) : Type 0 where
   pub entry : loaded.entry ≡ e_entry bytes
   pub loads : IsPermutation (filter (λ load. nat_lt 0 load.size) (in_file bytes).loads) loaded.loads
   pub rising : AllPairs (λ a b. a.address < b.address) loaded.loads
+
+-- a file of bytes has this image
+pub record IsOfAFile (loaded : Loaded) : Type 0 where
+  pub bytes : List ℕ
+  pub are_bytes : IsBytes bytes
+  pub has_image : HasImage bytes loaded

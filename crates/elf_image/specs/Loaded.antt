@@ -1,5 +1,5 @@
 -- What a program's file puts into memory, and which of its words are the program's text.
-use Rattle.std.specs.Prelude.{◌≡◌, ℕ, zero, suc, ◌+◌, ◌-◌, ◌%◌, ◌^◌, List, [], ◌∷◌, ◌++◌, length, drop, slice_index, Bool, ◌&&◌, ◌==◌, nat_le, nat_lt, Option, None, Some, if◌then◌else◌, ⊤}
+use Rattle.std.specs.Prelude.{◌≡◌, ℕ, zero, suc, ◌+◌, ◌-◌, ◌%◌, ◌^◌, List, [], ◌∷◌, ◌++◌, length, drop, slice_get, slice_index, Bool, ◌&&◌, ◌==◌, nat_le, nat_lt, Option, None, Some, if◌then◌else◌, ⊤}
 use Rattle.byteorder.specs.Endian.{little_number}
 use Rattle.elf_image.specs.declared.TextWord.{TextWord}
 use Rattle.elf_image.specs.declared.LoadPart.{LoadPart}
@@ -54,6 +54,13 @@ text_below words (suc pc) = text_below words pc ++ text_at pc (words pc)
 -- all text words in rising order of address
 abbrev pub text_of : Loaded → List TextWord
 text_of loaded = text_below (word_of loaded) (2 ^ 32)
+
+-- the place of the text word at an address, if one stands there
+abbrev pub IsPlace : List TextWord → ℕ → Option ℕ → Option ℕ → Type 0
+IsPlace text pc None None = ⊤
+IsPlace text pc None (Some place) = ⊥
+IsPlace text pc (Some word) None = ⊥
+IsPlace text pc (Some word) (Some place) = slice_get text place ≡ Some (record { pc = pc; word = word })
 
 -- a part as a load describes it: none where there is no load
 abbrev pub IsPart : Option Load → Option LoadPart → Type 0

@@ -1,15 +1,17 @@
 // The image that is kept of a file.
-ghost use Rattle.std.specs.Prelude.{◌≡◌, ◌≤◌, Contains, IfSome, length, slice_get, true};
-ghost use Rattle.elf_image.specs.Image.{loaded_by};
+ghost use Rattle.std.specs.Prelude.{◌≡◌, ◌≤◌, IfSome, Some, length, slice_get, true};
+ghost use Rattle.vm_word.specs.Bytes.{IsBytes};
+ghost use Rattle.elf_image.specs.declared.TextWord.{TextWord};
+ghost use Rattle.elf_image.specs.Image.{HasImage, IsOfAFile, loaded_by};
 ghost use Rattle.elf_image.specs.Layout.{Begun, IsLaidOut, follow};
-ghost use Rattle.elf_image.specs.Loaded.{IsPart, byte_of, text_of, word_of};
+ghost use Rattle.elf_image.specs.Loaded.{IsPart, IsPlace, Loaded, byte_of, text_of, word_of};
 
 use crate::headers::ProgramHeader;
 use crate::segments::bytes_of;
 use crate::{LoadPart, TextWord};
 use std::marker::Model;
 
-/// A program in memory, as its file gives it.
+/// A program in memory, as its file gives it. Each is that of a file of bytes.
 #[derive(Drop)]
 pub struct Image {
     entry: u32,
@@ -29,7 +31,9 @@ impl Model for Image {
 
     ghost view = { λ image. loaded_by image.entry image.file.items image.loads.items };
 
-    ghost invariant = { λ image. IsLaidOut image.entry image.file.items image.loads.items image.text.items };
+    ghost use Rattle.elf_image.specs.Image.{HasImage};
+
+    ghost invariant = { λ image. IsLaidOut image.entry image.file.items image.loads.items image.text.items × HasImage image.file.items (loaded_by image.entry image.file.items image.loads.items) };
 }
 
 // How many of these loads begin at the address or before it.
@@ -41,14 +45,37 @@ fn count_begun(loads: &[ProgramHeader], address: u32) -> usize
     loads.partition_point(|load| load.p_vaddr <= address)
 }
 
-// The word at an address, if the words from the first on follow one another up to there, as those of one load do.
-fn word_in_line(text: &[TextWord], pc: u32) -> Option<TextWord>
-    ensures { IfSome result (λ word. Contains text.now word × (word.pc ≡ pc)) }
+// The place of the word at an address, if the words from the first on follow one another up to there, as those of one
+// load do.
+fn place_in_line(text: &[TextWord], pc: u32) -> Option<usize>
+    ensures { IfSome result (λ place. (word : TextWord) × (slice_get text.now place ≡ Some word) × (word.pc ≡ pc)) }
 {
-    let first = text.first()?;
-    let place = pc.checked_sub(first.pc)? / 4;
-    let word = *text.get(place as usize)?;
-    if word.pc == pc { Some(word) } else { None }
+    let place = (pc.checked_sub(text.first()?.pc)? / 4) as usize;
+    if text.get(place)?.pc == pc {
+        Some(place)
+    } else {
+        None
+    }
+}
+
+/// The place of the word at an address of a text.
+pub(crate) fn place_in(text: &[TextWord], pc: u32) -> Option<usize>
+    ensures { (loaded : Loaded) → text.now ≡ text_of loaded → IsPlace text.now pc (word_of loaded pc) result }
+{
+    if let Some(place) = place_in_line(text, pc) {
+        return Some(place);
+    }
+    match text.binary_search_by_key(&pc, |word| word.pc) {
+        Ok(place) => Some(place),
+        Err(_) => None,
+    }
+}
+
+// The elements of a vector of bytes are bytes.
+fn are_bytes(bytes: &Vec<u8>)
+    ensures { IsBytes bytes.now.items }
+{
+    let _ = bytes;
 }
 
 impl Image {
@@ -59,8 +86,9 @@ impl Image {
         loads: Vec<ProgramHeader>,
         text: Vec<TextWord>,
     ) -> Self
-        requires { IsLaidOut entry file.items loads.items text.items }
-        ensures { result ≡ loaded_by entry file.items loads.items }
+        requires laid_out { IsLaidOut entry file.items loads.items text.items }
+        requires has_image { HasImage file.items (loaded_by entry file.items loads.items) }
+        ensures { HasImage file.items result }
     {
         Image {
             entry,
@@ -99,13 +127,22 @@ impl Image {
     pub fn word_at(&self, pc: u32) -> Option<u32>
         ensures { result ≡ word_of self.now pc }
     {
-        if let Some(found) = word_in_line(&self.text, pc) {
-            return Some(found.word);
-        }
-        match self.text.binary_search_by_key(&pc, |word| word.pc) {
-            Ok(place) => Some(self.text[place].word),
-            Err(_) => None,
-        }
+        let place = self.place_of(pc)?;
+        Some(self.text[place].word)
+    }
+
+    /// The place of the text word at an address, in rising order.
+    pub fn place_of(&self, pc: u32) -> Option<usize>
+        ensures { IsPlace (text_of self.now) pc (word_of self.now pc) result }
+    {
+        place_in(&self.text, pc)
+    }
+
+    /// Law: a file of bytes has this image.
+    pub fn is_of_a_file(&self)
+        ensures { IsOfAFile self.now }
+    {
+        are_bytes(&self.file);
     }
 
     /// How many text words there are.

@@ -16,6 +16,7 @@ mod tests;
 
 use headers::{ProgramHeader, read_loads, read_word};
 pub use image::Image;
+use image::place_in;
 pub use laws::{image_is_one, refusal_is_one, refused_has_no_image};
 use refusals::{header_refusal, load_refusal, overlap};
 use segments::{in_order, read_text};
@@ -123,9 +124,9 @@ fn lay_out(alloc: Global, bytes: &[u8], loads: Vec<ProgramHeader>) -> Result<Ima
         return Err(ImageError::Overlap);
     }
     let text = read_text(alloc, bytes, &loads)?;
-    let image = Image::new(read_word(bytes, 24), bytes.to_vec(alloc)?, loads, text);
-    if image.word_at(image.entry()).is_none() {
+    let entry = read_word(bytes, 24);
+    if place_in(&text, entry).is_none() {
         return Err(ImageError::Entry);
     }
-    Ok(image)
+    Ok(Image::new(entry, bytes.to_vec(alloc)?, loads, text))
 }

@@ -1,61 +1,6 @@
 //! The instructions that a word can be.
 
-/// When a branch is taken: `Bltu` and `Bgeu` compare unsigned numbers, `Blt` and `Bge` signed ones.
-#[derive(Clone, Copy, Debug, PartialEq, Eq)]
-pub enum BranchKind {
-    Beq,
-    Bne,
-    Blt,
-    Bge,
-    Bltu,
-    Bgeu,
-}
-
-/// What a load reads: a byte, a half or a word, the first two sign-extended or, with a `u`, zero-extended.
-#[derive(Clone, Copy, Debug, PartialEq, Eq)]
-pub enum LoadKind {
-    Lb,
-    Lh,
-    Lw,
-    Lbu,
-    Lhu,
-}
-
-/// What a store writes: the low byte, the low half or the word.
-#[derive(Clone, Copy, Debug, PartialEq, Eq)]
-pub enum StoreKind {
-    Sb,
-    Sh,
-    Sw,
-}
-
-/// An operation of the arithmetic unit.
-#[derive(Clone, Copy, Debug, PartialEq, Eq)]
-pub enum AluOp {
-    Add,
-    Sub,
-    Sll,
-    Slt,
-    Sltu,
-    Xor,
-    Srl,
-    Sra,
-    Or,
-    And,
-}
-
-/// A multiplication or a division.
-#[derive(Clone, Copy, Debug, PartialEq, Eq)]
-pub enum MulDivOp {
-    Mul,
-    Mulh,
-    Mulhsu,
-    Mulhu,
-    Div,
-    Divu,
-    Rem,
-    Remu,
-}
+use vm_word::operation::{AluOp, BranchKind, LoadKind, MulDivOp, StoreKind};
 
 /// A decoded instruction. Registers are numbers below 32, immediates and offsets are sign-extended words.
 #[derive(Clone, Copy, Debug, PartialEq, Eq)]

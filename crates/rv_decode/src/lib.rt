@@ -14,7 +14,8 @@ pub mod laws;
 mod tests;
 
 use fields::{b_imm, funct3, funct7, i_imm, j_imm, opcode, rd, rs1, rs2, s_imm, u_imm};
-pub use instr::{AluOp, BranchKind, Instr, LoadKind, MulDivOp, StoreKind};
+pub use instr::Instr;
+pub use vm_word::operation::{AluOp, BranchKind, LoadKind, MulDivOp, StoreKind};
 
 // A table of instructions by the fields that tell them apart.
 macro_rules! listed {

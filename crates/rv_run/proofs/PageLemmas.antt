@@ -1,12 +1,14 @@
 -- Bytes that are stored to a page.
-use Rattle.std.proofs.Common.{◌≡◌, ℕ, ◌+◌, ◌-◌, ◌/◌, ◌%◌, ◌<◌, ◌≤◌, true, false, ◌&&◌, List, ◌++◌, length, get_or, set, take, drop, Some, None, refl, sym, ap, ◌∙◌, arith, length-take, ⊎_elim}
+use Rattle.std.proofs.Common.{◌≡◌, ℕ, zero, suc, [], ◌∷◌, max, min, slice_get, add-one, length-drop, ◌+◌, ◌-◌, ◌/◌, ◌%◌, ◌<◌, ◌≤◌, true, false, ◌&&◌, List, ◌++◌, length, get_or, set, take, drop, Some, None, refl, sym, ap, ◌∙◌, arith, length-take, ⊎_elim}
 use Rattle.std.specs.Prelude.{nat_le, nat_lt, Option, if◌then◌else◌}
 use Rattle.std.proofs.lemmas.Bool.{cases_lt, cases_eq, le-ltb, le-leb, lt-ltb}
 use Rattle.std.proofs.lemmas.Bool.Decides.{nat_tests}
 use Rattle.std.proofs.lemmas.List.{get_or_append_left, get_or-append_right, get_or-set_same, get_or-set_other, get_or-take, get_or-drop}
 use borrow.Rule.Slice.PartMut.{put_mid}
+use Rattle.elf_image.specs.declared.LoadPart.{LoadPart}
+use Rattle.elf_image.specs.Loaded.{Load, IsPart, byte_in}
 use Rattle.rv_run.specs.declared.memory.Page.{Page}
-use Rattle.rv_run.specs.Memory.{with_bytes}
+use Rattle.rv_run.specs.Memory.{given_or, with_bytes}
 use Rattle.rv_run.specs.Pages.{byte_over, page_of}
 
 put_below : (a k : ℕ) (xs ys : List ℕ) (j : ℕ) → a ≤ length xs → j < a → get_or (put_mid a k xs ys) j 0 ≡ get_or xs j 0
@@ -76,3 +78,76 @@ byte_stored pages under page new address bytes owned listed size within is a =
     let outside : (nat_le address a && nat_lt a (address + length bytes)) ≡ false = not_on_page address a bytes within other in
     rw (unchanged, outside) refl)
     (cases_eq (a / 4096) (address / 4096))
+
+-- ---- the bytes that the image has in a page
+
+-- a part that stands for a load
+pub part_of : (load : Option Load) (part : LoadPart) → IsPart load (Some part) → (is : Load) × (load ≡ Some is) × (part.address ≡ is.address) × (part.bytes.now ≡ is.bytes)
+part_of None part h = absurd h
+part_of (Some load) part h = (load, refl, h.0, h.1)
+
+pub no_part : (loads : List Load) (place : ℕ) → IsPart (slice_get loads place) None → place < length loads → ⊥
+no_part [] place h low = omega (arith, low)
+no_part (x ∷ xs) zero h low = h
+no_part (x ∷ xs) (suc n) h low = no_part xs n h (omega (arith, low))
+
+-- the loads from a place on give what the load there gives, and else what those behind it give
+pub byte_from : (loads : List Load) (place a : ℕ) (load : Load) → slice_get loads place ≡ Some load
+    → given_or load.address load.bytes a (byte_in (drop (place + 1) loads) a) ≡ byte_in (drop place loads) a
+byte_from loads place a load at = rw add-one (from loads place load at) where
+  from : (xs : List Load) (n : ℕ) (x : Load) → slice_get xs n ≡ Some x → given_or x.address x.bytes a (byte_in (drop (suc n) xs) a) ≡ byte_in (drop n xs) a
+  from [] n x h = absurd (cc)
+  from (y ∷ ys) zero x h = let same : y ≡ x = cc in rw same refl
+  from (y ∷ ys) (suc n) x h = from ys n x h
+
+-- where no load is left, no byte is given
+pub none_left : (loads : List Load) (n a : ℕ) → length loads ≤ n → byte_in (drop n loads) a ≡ 0
+none_left [] zero a h = refl
+none_left [] (suc n) a h = refl
+none_left (x ∷ xs) zero a h = absurd (omega arith)
+none_left (x ∷ xs) (suc n) a h = none_left xs n a (omega arith)
+
+-- a byte after the part of one load more was copied
+pub page_more : (loads : List Load) (left start base k new old : ℕ) (part : LoadPart) → 0 < left → start ≡ base → IsPart (slice_get loads (left - 1)) (Some part)
+    → new ≡ given_or part.address part.bytes.now (start + k) old → old ≡ byte_in (drop left loads) (base + k) → new ≡ byte_in (drop (left - 1) loads) (base + k)
+page_more loads left start base k new old part some same h is before =
+    let load = part_of (slice_get loads (left - 1)) part h in
+    let next : left - 1 + 1 ≡ left = omega arith in
+    is ∙ ap (λ (s : ℕ). given_or part.address part.bytes.now (s + k) old) same
+    ∙ ap (λ (o : ℕ). given_or part.address part.bytes.now (base + k) o) before
+    ∙ ap (λ (a : ℕ). given_or a part.bytes.now (base + k) (byte_in (drop left loads) (base + k))) load.2
+    ∙ ap (λ (bs : List ℕ). given_or (load.0).address bs (base + k) (byte_in (drop left loads) (base + k))) load.3
+    ∙ ap (λ (n : ℕ). given_or (load.0).address (load.0).bytes (base + k) (byte_in (drop n loads) (base + k))) (sym next)
+    ∙ byte_from loads (left - 1) (base + k) load.0 load.1
+
+-- a byte of a page after what a load gives of it was copied
+pub byte_copied : (page bytes : List ℕ) (address start first end k : ℕ) → length page ≡ 4096 → first ≡ max address start → end ≡ min (address + length bytes) (start + 4096) → first < end → k < 4096
+    → get_or (put_mid (first - start) (end - start - (first - start)) page (take (end - address - (first - address)) (drop (first - address) bytes))) k 0 ≡ given_or address bytes (start + k) (get_or page k 0)
+byte_copied page bytes address start first end k size begins ends some within =
+    let xs : List ℕ = take (end - address - (first - address)) (drop (first - address) bytes) in
+    let m : ℕ = end - start - (first - start) in
+    let low : address ≤ first = omega arith in
+    let least : start ≤ first = omega arith in
+    let most : end ≤ start + 4096 = omega arith in
+    let given : end ≤ address + length bytes = omega arith in
+    let dropped : length (drop (first - address) bytes) ≡ length bytes - (first - address) = length-drop (first - address) bytes in
+    let long : length xs ≡ m = length-take (end - address - (first - address)) (drop (first - address) bytes) ∙ omega (arith, dropped) in
+    ⊎_elim
+    (λ (before : k < first - start).
+    let under : start + k < address = omega arith in
+    let off : nat_le address (start + k) ≡ false = grind (arith, nat_tests) in
+    put_below (first - start) m page xs k (omega arith) before ∙ rw off refl)
+    (λ (from : first - start ≤ k).
+    let on : nat_le address (start + k) ≡ true = le-leb address (start + k) (omega arith) in
+    ⊎_elim
+    (λ (inside : k < first - start + length xs).
+    let also : nat_lt (start + k) (address + length bytes) ≡ true = lt-ltb (start + k) (address + length bytes) (omega (arith, long)) in
+    let place : first - address + (k - (first - start)) ≡ start + k - address = omega arith in
+    put_inside (first - start) m page xs k (omega arith) from inside
+    ∙ get_or-take (end - address - (first - address)) (drop (first - address) bytes) (k - (first - start)) 0 (omega (arith, long))
+    ∙ get_or-drop (first - address) bytes (k - (first - start)) 0 ∙ ap (λ i. get_or bytes i 0) place ∙ rw (on, also) refl)
+    (λ (above : first - start + length xs ≤ k).
+    let past : address + length bytes ≤ start + k = omega (arith, long) in
+    put_above (first - start) m page xs k (omega (arith, long)) (sym long) (omega (arith, long)) ∙ rw (on, le-ltb (start + k) (address + length bytes) past) refl)
+    (cases_lt k (first - start + length xs)))
+    (cases_lt k (first - start))

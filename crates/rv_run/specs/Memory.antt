@@ -8,10 +8,14 @@ abbrev pub number_at : (ℕ → ℕ) → ℕ → ℕ → ℕ
 number_at memory address zero = 0
 number_at memory address (suc count) = memory address + 256 * number_at memory (address + 1) count
 
+-- a byte that stands from an address on, or another
+abbrev pub given_or : ℕ → List ℕ → ℕ → ℕ → ℕ
+given_or from bytes address other =
+    if nat_le from address && nat_lt address (from + length bytes) then slice_index bytes (address - from) else other
+
 -- bytes stand from an address on, and the others stay
 abbrev pub with_bytes : (ℕ → ℕ) → ℕ → List ℕ → ℕ → ℕ
-with_bytes memory address bytes a =
-    if nat_le address a && nat_lt a (address + length bytes) then slice_index bytes (a - address) else memory a
+with_bytes memory address bytes a = given_or address bytes a (memory a)
 
 -- words stand from an address on, the lowest byte of each first
 abbrev pub with_words : (ℕ → ℕ) → ℕ → List ℕ → ℕ → ℕ

@@ -13,7 +13,7 @@ abbrev pub page_of : List (Option Page) → ℕ → Option Page
 page_of pages address = slice_index_or pages (address / 4096) None
 
 abbrev pub memory_of : Memory → ℕ → ℕ
-memory_of memory address = byte_over (page_of memory.pages.items address) (byte_of memory.image.now) address
+memory_of memory address = byte_over (page_of memory.pages.items address) (byte_of memory.code.image.now) address
 
 -- the page of an address is kept
 abbrev pub IsOwned : Memory → ℕ → Type 0

@@ -10,7 +10,7 @@ use Rattle.rv_run.specs.Pages.{memory_of}
 use Rattle.rv_run.specs.Step.{Next, goes, ends, traps, step_by, step_of}
 
 abbrev pub program_of : State → Loaded
-program_of state = state.memory.image.now
+program_of state = state.memory.code.image.now
 
 abbrev pub machine_of : State → Machine
 machine_of state = record {

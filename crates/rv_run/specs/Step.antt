@@ -1,22 +1,14 @@
 -- One step of the machine. What an instruction does is the manual's (RISC-V Unprivileged ISA 20191213, the
 -- section beside each); hint store, reveal, SHA block, terminate and the traps are this project's own.
-use Rattle.std.specs.Prelude.{ℕ, ◌+◌, ◌-◌, ◌*◌, ◌%◌, ◌^◌, List, ◌++◌, length, take, drop, map, slice_index, slice_set, Bool, ◌&&◌, not, ◌==◌, nat_le, nat_lt, Option, None, Some, if◌then◌else◌, bit_and, bit_or, bit_xor}
+use Rattle.std.specs.Prelude.{ℕ, ◌+◌, ◌-◌, ◌*◌, ◌%◌, ◌^◌, List, ◌++◌, length, take, drop, map, slice_index, slice_set, Bool, ◌&&◌, not, ◌==◌, nat_le, nat_lt, Option, None, Some, if◌then◌else◌}
 use Rattle.std.specs.List.{range_with_len}
 use Rattle.byteorder.specs.Endian.{little_bytes}
-use Rattle.vm_word.specs.Arithmetic.{word_sum, word_difference, sign_extended, signed_less, shifted_left, shifted_right, shifted_right_signed, low_product, high_product, high_product_signed, high_product_mixed, quotient, quotient_signed, remainder, remainder_signed}
+use Rattle.vm_word.specs.Arithmetic.{word_sum}
+use Rattle.vm_word.specs.Operations.{alu_result, branch_holds, jump_target, load_extended, load_width, mul_div_result, store_width}
 use Rattle.sha_words.specs.Sha256.{compress}
 use Rattle.rv_decode.specs.declared.instr.Instr.{Instr}
 use Rattle.rv_decode.specs.declared.instr.Instr.TheVariants.{Lui, Auipc, Jal, Jalr, Branch, Load, Store, AluImm, Alu, MulDiv, Fence, Terminate, HintStore, Reveal, ShaBlock}
-use Rattle.rv_decode.specs.declared.instr.BranchKind.{BranchKind}
-use Rattle.rv_decode.specs.declared.instr.BranchKind.TheVariants.{Beq, Bne, Blt, Bge, Bltu, Bgeu}
-use Rattle.rv_decode.specs.declared.instr.LoadKind.{LoadKind}
-use Rattle.rv_decode.specs.declared.instr.LoadKind.TheVariants.{Lb, Lh, Lw, Lbu, Lhu}
-use Rattle.rv_decode.specs.declared.instr.StoreKind.{StoreKind}
-use Rattle.rv_decode.specs.declared.instr.StoreKind.TheVariants.{Sb, Sh, Sw}
-use Rattle.rv_decode.specs.declared.instr.AluOp.{AluOp}
-use Rattle.rv_decode.specs.declared.instr.AluOp.TheVariants.{Add, Sub, Sll, Slt, Sltu, Xor, Srl, Sra, Or, And}
-use Rattle.rv_decode.specs.declared.instr.MulDivOp.{MulDivOp}
-use Rattle.rv_decode.specs.declared.instr.MulDivOp.TheVariants.{Mul, Mulh, Mulhsu, Mulhu, Div, Divu, Rem, Remu}
+use Rattle.vm_word.specs.declared.operation.BranchKind.{BranchKind}
 use Rattle.rv_decode.specs.Listing.{decode_of}
 use Rattle.elf_image.specs.Loaded.{Loaded, word_of}
 use Rattle.rv_run.specs.declared.outcome.Cause.{Cause}
@@ -64,74 +56,18 @@ make_public place word m = record m {
   public_bytes = take place m.public_bytes ++ (little_bytes 4 word ++ drop (place + 4) m.public_bytes);
 }
 
--- ---- results (2.4 and 7.1)
-
-abbrev pub word_of_test : Bool → ℕ
-word_of_test b = if b then 1 else 0
-
--- the low five bits of the second word are a shift's amount
-abbrev pub alu : AluOp → ℕ → ℕ → ℕ
-alu Add a b = word_sum a b
-alu Sub a b = word_difference a b
-alu Sll a b = shifted_left a (b % 32)
-alu Slt a b = word_of_test (signed_less a b)
-alu Sltu a b = word_of_test (nat_lt a b)
-alu Xor a b = bit_xor a b
-alu Srl a b = shifted_right a (b % 32)
-alu Sra a b = shifted_right_signed a (b % 32)
-alu Or a b = bit_or a b
-alu And a b = bit_and a b
-
-abbrev pub mul_div : MulDivOp → ℕ → ℕ → ℕ
-mul_div Mul a b = low_product a b
-mul_div Mulh a b = high_product_signed a b
-mul_div Mulhsu a b = high_product_mixed a b
-mul_div Mulhu a b = high_product a b
-mul_div Div a b = quotient_signed a b
-mul_div Divu a b = quotient a b
-mul_div Rem a b = remainder_signed a b
-mul_div Remu a b = remainder a b
-
--- whether a branch is taken (2.5)
-abbrev pub is_taken : BranchKind → ℕ → ℕ → Bool
-is_taken Beq a b = a == b
-is_taken Bne a b = not (a == b)
-is_taken Blt a b = signed_less a b
-is_taken Bge a b = not (signed_less a b)
-is_taken Bltu a b = nat_lt a b
-is_taken Bgeu a b = not (nat_lt a b)
+-- ---- branches and jumps (2.5)
 
 abbrev pub branch_taken : Machine → BranchKind → ℕ → ℕ → Bool
-branch_taken m kind rs1 rs2 = is_taken kind (register m rs1) (register m rs2)
+branch_taken m kind rs1 rs2 = branch_holds kind (register m rs1) (register m rs2)
 
--- where JALR leads: bit 0 of the sum is cleared (2.5)
 abbrev pub jalr_target : Machine → ℕ → ℕ → ℕ
-jalr_target m rs1 imm = word_sum (register m rs1) imm - word_sum (register m rs1) imm % 2
+jalr_target m rs1 imm = jump_target (register m rs1) imm
 
 -- ---- loads and stores (2.6)
 
 abbrev pub address_of : Machine → ℕ → ℕ → ℕ
 address_of m base imm = word_sum (register m base) imm
-
-abbrev pub load_width : LoadKind → ℕ
-load_width Lb = 1
-load_width Lh = 2
-load_width Lw = 4
-load_width Lbu = 1
-load_width Lhu = 2
-
-abbrev pub store_width : StoreKind → ℕ
-store_width Sb = 1
-store_width Sh = 2
-store_width Sw = 4
-
--- the number that was loaded, as a word
-abbrev pub extended : LoadKind → ℕ → ℕ
-extended Lb number = sign_extended 8 number
-extended Lh number = sign_extended 16 number
-extended Lw number = number
-extended Lbu number = number
-extended Lhu number = number
 
 -- ---- SHA block: eight words at one address are replaced by their compression with 64 bytes at another
 
@@ -195,11 +131,11 @@ performed m (Auipc rd imm) = goes (goes_on (put rd (word_sum m.pc imm) m))
 performed m (Jal rd offset) = goes (jumps (word_sum m.pc offset) (put rd (word_sum m.pc 4) m))
 performed m (Jalr rd rs1 imm) = goes (jumps (jalr_target m rs1 imm) (put rd (word_sum m.pc 4) m))
 performed m (Branch kind rs1 rs2 offset) = goes (if branch_taken m kind rs1 rs2 then jumps (word_sum m.pc offset) m else goes_on m)
-performed m (Load kind rd rs1 imm) = goes (goes_on (put rd (extended kind (number_at m.memory (address_of m rs1 imm) (load_width kind))) m))
+performed m (Load kind rd rs1 imm) = goes (goes_on (put rd (load_extended kind (number_at m.memory (address_of m rs1 imm) (load_width kind))) m))
 performed m (Store kind rs1 rs2 imm) = goes (goes_on (store (address_of m rs1 imm) (little_bytes (store_width kind) (register m rs2)) m))
-performed m (AluImm op rd rs1 imm) = goes (goes_on (put rd (alu op (register m rs1) imm) m))
-performed m (Alu op rd rs1 rs2) = goes (goes_on (put rd (alu op (register m rs1) (register m rs2)) m))
-performed m (MulDiv op rd rs1 rs2) = goes (goes_on (put rd (mul_div op (register m rs1) (register m rs2)) m))
+performed m (AluImm op rd rs1 imm) = goes (goes_on (put rd (alu_result op (register m rs1) imm) m))
+performed m (Alu op rd rs1 rs2) = goes (goes_on (put rd (alu_result op (register m rs1) (register m rs2)) m))
+performed m (MulDiv op rd rs1 rs2) = goes (goes_on (put rd (mul_div_result op (register m rs1) (register m rs2)) m))
 performed m Fence = goes (goes_on m)
 performed m (Terminate code) = ends code
 performed m (HintStore base imm) = goes (goes_on (use_hints 4 (store (address_of m base imm) (take 4 m.hints) m)))

@@ -4,12 +4,12 @@
 ghost use Rattle.std.specs.Prelude.{◌≡◌, IfOk};
 ghost use Rattle.rv_run.specs.Run.{IsRunEnd};
 
+mod code;
 mod hints;
 mod laws;
 mod memory;
 mod obstacles;
 mod outcome;
-mod results;
 mod state;
 
 use elf_image::Image;

@@ -1,9 +1,11 @@
 // The memory of the machine: the image, and over it the pages that were stored to.
+ghost use Rattle.rv_run.specs.Memory.{given_or};
 ghost use Rattle.std.specs.Prelude.{◌≡◌, ◌<◌, ◌≤◌, ◌+◌, ◌*◌, ◌%◌, ◌^◌, ℕ, length, vec_len, IfOk, OnOk, OnErr, slice_index};
 
 use crate::OutOfMemory;
-use elf_image::Image;
-use rv_decode::StoreKind;
+use crate::code::Code;
+use elf_image::{Image, LoadPart};
+use rv_decode::{Instr, StoreKind};
 use std::alloc::{AllocError, Global};
 
 const PAGE_SIZE: usize = 4096;
@@ -20,39 +22,39 @@ pub struct Page {
 #[derive(Drop)]
 pub struct Memory<'a> {
     alloc: Global,
-    image: &'a Image,
+    code: Code<'a>,
     pages: Vec<Option<Page>>,
     ghost whole: { vec_len pages ≡ 131072 },
 }
 
 impl<'a> Memory<'a> {
-    ghost use Rattle.elf_image.specs.Loaded.{byte_of};
+    ghost use Rattle.elf_image.specs.Loaded.{byte_of, word_of};
+    ghost use Rattle.rv_run.specs.Code.{fetched, HasRanges};
     ghost use Rattle.byteorder.specs.Endian.{little_bytes};
     ghost use Rattle.rv_run.specs.Memory.{number_at, with_bytes, with_words};
-    ghost use Rattle.rv_run.specs.Step.{store_width, words_at, bytes_at};
+    ghost use Rattle.rv_run.specs.Step.{words_at, bytes_at};
+    ghost use Rattle.vm_word.specs.Operations.{store_width};
     ghost use Rattle.rv_run.specs.Pages.{memory_of, IsOwned, KeepsOwned};
 
     /// The memory before anything is stored.
     pub fn new(alloc: Global, image: &'a Image) -> Result<Memory<'a>, OutOfMemory>
-        ensures image { IfOk result (λ memory. memory.image.now ≡ image.now) }
+        ensures image { IfOk result (λ memory. memory.code.image.now ≡ image.now) }
         ensures bytes { IfOk result (λ memory. memory_of memory ≡ byte_of image.now) }
     {
+        let code = Code::new(alloc, image)?;
         let mut pages = Vec::with_capacity(alloc, PAGES)?;
         for _ in 0..PAGES {
             pages.push(None).map_err(AllocError::from)?;
         }
-        Ok(Memory {
-            alloc,
-            image,
-            pages,
-        })
+        Ok(Memory { alloc, code, pages })
     }
 
-    /// The program that the machine runs.
-    pub fn image(&self) -> &'a Image
-        ensures { result.now ≡ self.now.image.now }
+    /// What the text word at an address decodes to, `None` where no text word stands there. No store changes it.
+    pub fn fetch(&self, pc: u32) -> Option<Option<Instr>>
+        ensures is { result ≡ fetched (word_of self.now.code.image.now pc) }
+        ensures ranged { HasRanges result }
     {
-        self.image
+        self.code.fetch(pc)
     }
 
     /// The byte at an address, the image's where no page is kept.
@@ -61,7 +63,7 @@ impl<'a> Memory<'a> {
     {
         match self.pages.get(address as usize / PAGE_SIZE) {
             Some(Some(page)) => page.bytes[address as usize % PAGE_SIZE],
-            _ => self.image.byte(address),
+            _ => self.code.image().byte(address),
         }
     }
 
@@ -92,7 +94,7 @@ impl<'a> Memory<'a> {
         requires within { address % 4096 + length bytes.now ≤ 4096 }
         ensures stored { OnOk result (memory_of self.new ≡ with_bytes (memory_of self.old) address bytes.now) }
         ensures err { OnErr result (memory_of self.new ≡ memory_of self.old) }
-        ensures image { self.new.image ≡ self.old.image }
+        ensures code { self.new.code ≡ self.old.code }
     {
         self.own(address)?;
         self.put(address, bytes);
@@ -110,7 +112,7 @@ impl<'a> Memory<'a> {
         requires aligned { address % store_width kind ≡ 0 }
         ensures stored { OnOk result (memory_of self.new ≡ with_bytes (memory_of self.old) address (little_bytes (store_width kind) word)) }
         ensures err { OnErr result (memory_of self.new ≡ memory_of self.old) }
-        ensures image { self.new.image ≡ self.old.image }
+        ensures code { self.new.code ≡ self.old.code }
     {
         let bytes = word.to_le_bytes();
         match kind {
@@ -151,7 +153,7 @@ impl<'a> Memory<'a> {
         requires low { address + 32 ≤ 2 ^ 29 }
         ensures stored { OnOk result (memory_of self.new ≡ with_words (memory_of self.old) address words.now) }
         ensures err { OnErr result (memory_of self.new ≡ memory_of self.old) }
-        ensures image { self.new.image ≡ self.old.image }
+        ensures code { self.new.code ≡ self.old.code }
     {
         self.own(address)?;
         self.own(address + 28)?;
@@ -167,7 +169,7 @@ impl<'a> Memory<'a> {
         ensures bytes { memory_of self.new ≡ memory_of self.old }
         ensures owned { OnOk result (IsOwned self.new address) }
         ensures keeps { KeepsOwned self.old self.new }
-        ensures image { self.new.image ≡ self.old.image }
+        ensures code { self.new.code ≡ self.old.code }
     {
         let place = address as usize / PAGE_SIZE;
         if self.pages[place].is_none() {
@@ -182,7 +184,7 @@ impl<'a> Memory<'a> {
         requires within { address % 4096 + length bytes.now ≤ 4096 }
         ensures stored { memory_of self.new ≡ with_bytes (memory_of self.old) address bytes.now }
         ensures keeps { KeepsOwned self.old self.new }
-        ensures image { self.new.image ≡ self.old.image }
+        ensures code { self.new.code ≡ self.old.code }
     {
         let place = address as usize % PAGE_SIZE;
         if let Some(page) = &mut self.pages[address as usize / PAGE_SIZE] {
@@ -193,14 +195,34 @@ impl<'a> Memory<'a> {
     // The bytes that the image has in a page.
     fn copied_page(&self, number: u32) -> Result<Page, OutOfMemory>
         requires { number < 2 ^ 17 }
-        ensures { IfOk result (λ page. (k : ℕ) → k < 4096 → slice_index page.bytes.value k ≡ byte_of self.now.image.now (4096 * number + k)) }
+        ensures { IfOk result (λ page. (k : ℕ) → k < 4096 → slice_index page.bytes.value k ≡ byte_of self.now.code.image.now (4096 * number + k)) }
     {
+        let image = self.code.image();
+        let start = number as usize * PAGE_SIZE;
         let mut bytes = [0; PAGE_SIZE];
-        for (i, byte) in bytes.iter_mut().enumerate() {
-            *byte = self.image.byte(number * 4096 + i as u32);
+        let mut left = image.loads_len();
+        while left > 0 {
+            left -= 1;
+            if let Some(load) = image.load(left) {
+                copy_part(&mut bytes, start, &load);
+            }
         }
         Ok(Page {
             bytes: Box::new(self.alloc, bytes)?,
         })
+    }
+}
+
+// Copies what a load gives of a page's bytes, which begin at this address.
+fn copy_part(bytes: &mut [u8; 4096], start: usize, load: &LoadPart<'_>)
+    requires { start ≤ 2 ^ 29 }
+    ensures { (k : ℕ) → k < 4096 → slice_index bytes.new k ≡ given_or load.now.address load.now.bytes.now (start + k) (slice_index bytes.old k) }
+{
+    let address = load.address as usize;
+    let first = address.max(start);
+    let end = (address + load.bytes.len()).min(start + PAGE_SIZE);
+    if first < end {
+        bytes[first - start..end - start]
+            .copy_from_slice(&load.bytes[first - address..end - address]);
     }
 }

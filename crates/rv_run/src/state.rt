@@ -16,7 +16,7 @@ use crate::hints::Hints;
 use crate::memory::Memory;
 use crate::outcome::{Cause, Stepped, Trap};
 use elf_image::Image;
-use rv_decode::{Instr, decode};
+use rv_decode::Instr;
 use std::alloc::Global;
 
 /// The machine in the middle of a run. A state borrows the image, whose text no store changes.
@@ -85,7 +85,7 @@ impl<'a> State<'a> {
         ensures listed { result ≡ option_and_then decode_of (word_of (program_of self.now) (machine_of self.now).pc) }
         ensures ranged { IfSome result HasFieldsInRange }
     {
-        decode(self.memory.image().word_at(self.pc)?)
+        self.memory.fetch(self.pc)?
     }
 
     /// Does one step. Only `Went` changes the state.
@@ -94,12 +94,10 @@ impl<'a> State<'a> {
         ensures err { OnErr result (machine_of self.new ≡ machine_of self.old) }
         ensures program { program_of self.new ≡ program_of self.old }
     {
-        let Some(word) = self.memory.image().word_at(self.pc) else {
-            return Ok(self.trap(Cause::NotText));
-        };
-        match decode(word) {
-            Some(instr) => self.execute(instr),
-            None => Ok(self.trap(Cause::Undecoded)),
+        match self.memory.fetch(self.pc) {
+            Some(Some(instr)) => self.execute(instr),
+            Some(None) => Ok(self.trap(Cause::Undecoded)),
+            None => Ok(self.trap(Cause::NotText)),
         }
     }
 

@@ -119,6 +119,6 @@ on_blocks sheet fits buses sound elf loaded v image table file accepts =
     }
 
 pub accepted_is_run : (sheet : Sheet) → Fits sheet → Buses sheet → Sound sheet → AcceptedFilesAreRuns sheet
-accepted_is_run sheet fits buses sound loaded v table file accepts elf bytes image =
-    (runs_end_alike elf loaded bytes image [] (valid_rows sheet v.rows) v.exit_code (replicate 64 0) tt).1
-    (on_blocks sheet fits buses sound elf loaded v image table file accepts)
+accepted_is_run sheet fits buses sound loaded v image table file accepts =
+    (runs_end_alike loaded image [] (valid_rows sheet v.rows) v.exit_code (replicate 64 0) tt).1
+    (on_blocks sheet fits buses sound image.bytes loaded v image.has_image table file accepts)

@@ -5,11 +5,9 @@ use Rattle.vm_host.specs.State.{HostState}
 use Rattle.vm_host.specs.Calls.{AtEnd, Rose}
 use Rattle.vm_host.specs.ReadUpTo.{Took}
 use Rattle.air_core.specs.Sheet.{Sheet}
-use Rattle.elf_image.specs.Image.{HasImage}
 use Rattle.elf_image.specs.Loaded.{Loaded}
 use Rattle.rv_run.specs.Run.{Ends}
 use Rattle.table_format.specs.File.{FileValue, IsFile, spelling}
-use Rattle.vm_isa.specs.Words.{IsBytes}
 use Rattle.vm_transpile.specs.Program.{program_of}
 use Rattle.vm_checker.specs.declared.Accepted.{Accepted as Acceptance}
 use Rattle.vm_checker.specs.declared.CheckError.{CheckError}
@@ -26,10 +24,10 @@ acceptance_of code = record { code = code; public = replicate 64 0; segments = 1
 abbrev pub verdict_of : Bool → ℕ → Verdict
 verdict_of accepted code = if accepted then Accepted (acceptance_of code) else Rejected Claim
 
--- over every file of this image the manual's machine ends after so many steps with this code, takes no
--- hints and makes nothing public
+-- over this image the manual's machine ends after so many steps with this code, takes no hints and makes
+-- nothing public
 abbrev pub RunsSo : Loaded → ℕ → ℕ → Type 0
-RunsSo loaded steps code = (elf : List ℕ) → IsBytes elf → HasImage elf loaded → Ends loaded [] steps code (replicate 64 0)
+RunsSo loaded steps code = Ends loaded [] steps code (replicate 64 0)
 
 -- The verdict on a file of these bytes, over the program of an image. It is rejected as no file exactly
 -- where the bytes are the spelling of none, and for its claim exactly where that is not accepted. An

@@ -85,6 +85,7 @@ pub fn check<C: Chip, H: Host>(
     requires open { ((H.state host.old).input Second).is_open ≡ true }
     ensures { Checks (C.sheet chip.now) image.now (H.state host.old) (H.state host.new) result }
 {
+    image.is_of_a_file();
     let program = transpile(alloc, image)?;
     match read_file(alloc, host, program.len()) {
         Ok(file) => {

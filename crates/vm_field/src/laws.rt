@@ -1,6 +1,10 @@
 //! Laws of the field. Each is what a function with an empty body ensures.
 
+ghost use Rattle.std.specs.Prelude.{◌≡◌};
+ghost use Rattle.vm_field.specs.Field.{field_mul};
 ghost use Rattle.vm_field.specs.Laws.{ModulusIsPrime, OperationsFormAField, NoZeroDivisors, InverseIsOne, CloseNumbersLift, QuotientsLift};
+
+use crate::Fe;
 
 /// Law: the modulus is prime.
 pub fn modulus_is_prime()
@@ -32,3 +36,10 @@ pub fn close_numbers_lift()
 pub fn quotients_lift()
     ensures { QuotientsLift }
 {}
+
+/// Law: the constant is the inverse of 256.
+pub fn inverse_of_256() -> Fe
+    ensures { field_mul 256 result ≡ 1 }
+{
+    Fe::INVERSE_OF_256
+}

@@ -12,8 +12,13 @@ use Rattle.vm_word.specs.Arithmetic.{word_sum}
 use Rattle.vm_isa.specs.declared.instr.VmInstr.{VmInstr}
 use Rattle.vm_isa.specs.declared.meaning.Place.{Place}
 use Rattle.vm_isa.specs.declared.meaning.NextAccess.TheVariants.{Done}
-use Rattle.vm_isa.specs.Opcodes.{is_load, is_store, is_branch, is_upper, is_register, LB, LH, LW, LBU, LHU, SB, SH, SW, JAL, JALR, HINT, REVEAL, SHA}
-use Rattle.vm_isa.specs.Results.{width_of}
+use Rattle.vm_isa.specs.Opcodes.{is_load, is_store, is_branch, is_upper, is_register, LB, SW, JAL, JALR, HINT, REVEAL, SHA}
+use Rattle.vm_isa.specs.Results.{load_kind, store_kind, width_of}
+use Rattle.vm_word.specs.Operations.{load_width, store_width}
+use Rattle.vm_word.specs.declared.operation.LoadKind.{LoadKind}
+use Rattle.vm_word.specs.declared.operation.LoadKind.TheVariants.{Lb, Lh, Lw, Lbu, Lhu}
+use Rattle.vm_word.specs.declared.operation.StoreKind.{StoreKind}
+use Rattle.vm_word.specs.declared.operation.StoreKind.TheVariants.{Sb, Sh, Sw}
 use Rattle.vm_isa.specs.Means.{Accessed, HasNew, Meaning, means_of, is_refused, bars_first, compressed, is_bad, address, in_block, register, memory, places_by, places_of, sha_places, slot_at, accessed_by, new_at, next_access_of, word_at}
 use Rattle.vm_isa.proofs.MeansLaws.{whole, done_whole}
 use Rattle.vm_isa.proofs.NextLaws.{meant}
@@ -192,13 +197,25 @@ first_fits i olds h some =
 in_width : (width a : ℕ) → is_bad width a ≡ false → a % width ≡ 0
 in_width width a h = grind (arith, nat_tests)
 
-pick : (t : Bool) (a b : ℕ) → (a ≡ 1) ⊎ ((a ≡ 2) ⊎ (a ≡ 4)) → (b ≡ 1) ⊎ ((b ≡ 2) ⊎ (b ≡ 4)) → ((if t then a else b) ≡ 1) ⊎ (((if t then a else b) ≡ 2) ⊎ ((if t then a else b) ≡ 4))
-pick true a b p q = p
-pick false a b p q = q
+load_widths : (kind : LoadKind) → (load_width kind ≡ 1) ⊎ ((load_width kind ≡ 2) ⊎ (load_width kind ≡ 4))
+load_widths Lb = inl refl
+load_widths Lh = inr (inl refl)
+load_widths Lw = inr (inr refl)
+load_widths Lbu = inl refl
+load_widths Lhu = inr (inl refl)
+
+store_widths : (kind : StoreKind) → (store_width kind ≡ 1) ⊎ ((store_width kind ≡ 2) ⊎ (store_width kind ≡ 4))
+store_widths Sb = inl refl
+store_widths Sh = inr (inl refl)
+store_widths Sw = inr (inr refl)
+
+widths_by : (load : Bool) (op : ℕ) → is_load op ≡ load → (width_of op ≡ 1) ⊎ ((width_of op ≡ 2) ⊎ (width_of op ≡ 4))
+unfolding width_of
+widths_by true op e = rw e (load_widths (load_kind op))
+widths_by false op e = rw e (store_widths (store_kind op))
 
 widths : (op : ℕ) → (width_of op ≡ 1) ⊎ ((width_of op ≡ 2) ⊎ (width_of op ≡ 4))
-unfolding width_of
-widths op = pick (nat_eq op LB) _ _ (inl refl) (pick (nat_eq op LH) _ _ (inr (inl refl)) (pick (nat_eq op LW) _ _ (inr (inr refl)) (pick (nat_eq op LBU) _ _ (inl refl) (pick (nat_eq op LHU) _ _ (inr (inl refl)) (pick (nat_eq op SB) _ _ (inl refl) (pick (nat_eq op SH) _ _ (inr (inl refl)) (inr (inr refl))))))))
+widths op = widths_by (is_load op) op refl
 
 block_end : (width a : ℕ) → (width ≡ 1) ⊎ ((width ≡ 2) ⊎ (width ≡ 4)) → a % width ≡ 0 → a % 4 + width ≤ 4
 block_end width a (inl e) h = omega arith

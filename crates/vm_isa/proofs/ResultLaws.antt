@@ -2,7 +2,8 @@
 use Rattle.std.proofs.Common.{◌≡◌, ℕ, ◌%◌, nat_lt, bit_and, bit_or, bit_xor, refl}
 use Rattle.vm_word.specs.Arithmetic.{word_sum, word_difference, signed_less, shifted_left, shifted_right, shifted_right_signed, low_product, high_product, high_product_signed, high_product_mixed, quotient, quotient_signed, remainder, remainder_signed}
 use Rattle.vm_isa.specs.Opcodes.{ADD, SUB, XOR, OR, AND, SLT, SLTU, SLL, SRL, SRA, MUL, MULH, MULHSU, MULHU, DIV, DIVU, REM, REMU}
-use Rattle.vm_isa.specs.Results.{alu, mul_div, result, word_of_test}
+use Rattle.vm_isa.specs.Results.{alu, mul_div, result}
+use Rattle.vm_word.specs.Operations.{word_of_test}
 
 module _ (a b : ℕ) where
   pub result-add : result ADD a b ≡ word_sum a b

@@ -1,10 +1,12 @@
 -- The virtual machine. Its memory is blocks of four bytes in three spaces, and a step is the meaning
 -- of the program row at the pc.
-use Rattle.std.specs.Prelude.{◌≡◌, ℕ, zero, suc, ◌*◌, ◌%◌, ◌^◌, ◌≤◌, Bool, true, ◌&&◌, nat_eq, nat_lt, if◌then◌else◌, List, [], ◌∷◌, flat_map, map, length, take, drop, slice_index, Some, Contains}
+use Rattle.std.specs.Prelude.{◌≡◌, ℕ, zero, suc, ◌*◌, ◌%◌, ◌^◌, Bool, true, ◌&&◌, nat_eq, nat_lt, if◌then◌else◌, List, [], ◌∷◌, flat_map, map, slice_index, Some, Contains}
 use Rattle.std.specs.List.{range_with_len}
 use Rattle.vm_isa.specs.declared.instr.VmInstr.{VmInstr}
 use Rattle.vm_isa.specs.Means.{Accessed, Meaning, means_of}
-use Rattle.vm_isa.specs.Opcodes.{HINT, TERMINATE}
+use Rattle.vm_isa.specs.Opcodes.{TERMINATE}
+pub use Rattle.vm_isa.specs.Hints.{hints_used}
+use Rattle.vm_isa.specs.Hints.{Hints, AreEnough, hints_after, next_hint}
 use Rattle.vm_isa.specs.Spaces.{REGISTERS, MEMORY, PUBLIC}
 
 -- the word at each space and pointer
@@ -14,8 +16,7 @@ Blocks = ℕ → ℕ → List ℕ
 pub record VmState : Type 0 where
   pub pc : ℕ
   pub blocks : Blocks
-  -- the hint bytes that are left
-  pub hints : List ℕ
+  pub hints : Hints
 
 -- the bytes of a space: register r is at 4 * r
 abbrev pub space_size : ℕ → ℕ
@@ -39,21 +40,17 @@ unfoldable pub after_accesses : Blocks → List Accessed → Blocks
 after_accesses blocks [] = blocks
 after_accesses blocks (a ∷ more) = after_accesses (with_block blocks a.space a.pointer a.new) more
 
--- HINT uses up four hint bytes
-abbrev pub hints_used : ℕ → ℕ
-hints_used op = if nat_eq op HINT then 4 else 0
-
 -- A step. There is none where no row stands at the pc, where the row has no meaning, where an access
--- is not to a block, and where a HINT finds too few hint bytes.
+-- is not to a block, and where the hints that are left are too few.
 pub record VmStep (program : List VmInstr) (s t : VmState) : Type 0 where
   pub instr : VmInstr
   pub stands : Contains program instr
   pub here : instr.pc ≡ s.pc
   pub meaning : Meaning
-  pub means : means_of instr (map (λ a. a.old) meaning.accesses) (take 4 s.hints) ≡ Some meaning
+  pub means : means_of instr (map (λ a. a.old) meaning.accesses) (next_hint s.hints) ≡ Some meaning
   pub meets : Meets s.blocks meaning.accesses
-  pub enough : hints_used instr.op ≤ length s.hints
-  pub next : t ≡ record { pc = meaning.next; blocks = after_accesses s.blocks meaning.accesses; hints = drop (hints_used instr.op) s.hints }
+  pub enough : AreEnough instr.op s.hints
+  pub next : t ≡ record { pc = meaning.next; blocks = after_accesses s.blocks meaning.accesses; hints = hints_after instr.op s.hints }
 
 -- n steps lead from a state to this one
 abbrev pub VmGoes : List VmInstr → VmState → ℕ → VmState → Type 0

@@ -5,5 +5,6 @@ pub mod Spaces
 pub mod Instr
 pub mod Results
 pub mod Means
+pub mod Hints
 pub mod Blocks
 pub mod Laws

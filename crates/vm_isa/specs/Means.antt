@@ -4,6 +4,7 @@ use Rattle.std.specs.Prelude.{◌≡◌, ℕ, ◌+◌, ◌-◌, ◌*◌, ◌%◌
 use Rattle.std.specs.List.{AllByRecursion, concat, range_with_len, slice_index_or}
 use Rattle.vm_word.specs.Word.{limbs_of, word_of_limbs}
 use Rattle.vm_word.specs.Arithmetic.{word_sum}
+use Rattle.vm_word.specs.Operations.{jump_target}
 use Rattle.sha_words.specs.Sha256.{compress}
 use Rattle.vm_isa.specs.declared.instr.VmInstr.{VmInstr}
 use Rattle.vm_isa.specs.declared.access.TimedAccess.{TimedAccess}
@@ -57,9 +58,8 @@ block_address i b = address i b - address i b % 4
 abbrev pub in_block : VmInstr → ℕ → ℕ
 in_block i b = address i b % 4
 
--- bit 0 is cleared
 abbrev pub jalr_target : VmInstr → ℕ → ℕ
-jalr_target i b = address i b - address i b % 2
+jalr_target i b = jump_target b (imm_of i)
 
 abbrev pub after : VmInstr → ℕ
 after i = word_sum i.pc 4

@@ -1,70 +1,96 @@
--- What opcodes make of words (RISC-V Unprivileged ISA 20191213, the section beside each).
-use Rattle.std.specs.Prelude.{ℕ, ◌+◌, ◌%◌, Bool, not, nat_eq, nat_lt, if◌then◌else◌, List, ◌++◌, take, drop, bit_and, bit_or, bit_xor}
+-- What opcodes make of words: the operations that they stand for.
+use Rattle.std.specs.Prelude.{ℕ, ◌+◌, Bool, nat_eq, if◌then◌else◌, List, ◌++◌, take, drop}
 use Rattle.vm_word.specs.Word.{word_of_limbs}
-use Rattle.vm_word.specs.Arithmetic.{word_sum, word_difference, sign_extended, signed_less, shifted_left, shifted_right, shifted_right_signed, low_product, high_product, high_product_signed, high_product_mixed, quotient, quotient_signed, remainder, remainder_signed}
-use Rattle.vm_isa.specs.Opcodes.{is_alu, ADD, SUB, XOR, OR, AND, SLT, SLTU, SLL, SRL, LB, LH, LW, LBU, LHU, SB, SH, BEQ, BNE, BLT, BLTU, BGE, MUL, MULH, MULHSU, MULHU, DIV, DIVU, REM}
+use Rattle.vm_word.specs.declared.operation.AluOp.{AluOp}
+use Rattle.vm_word.specs.declared.operation.AluOp.TheVariants.{Add, Sub, Xor, Or, And, Slt, Sltu, Sll, Srl, Sra}
+use Rattle.vm_word.specs.declared.operation.BranchKind.{BranchKind}
+use Rattle.vm_word.specs.declared.operation.BranchKind.TheVariants.{Beq, Bne, Blt, Bltu, Bge, Bgeu}
+use Rattle.vm_word.specs.declared.operation.LoadKind.{LoadKind}
+use Rattle.vm_word.specs.declared.operation.LoadKind.TheVariants.{Lb, Lh, Lw, Lbu, Lhu}
+use Rattle.vm_word.specs.declared.operation.MulDivOp.{MulDivOp}
+use Rattle.vm_word.specs.declared.operation.MulDivOp.TheVariants.{Mul, Mulh, Mulhsu, Mulhu, Div, Divu, Rem, Remu}
+use Rattle.vm_word.specs.declared.operation.StoreKind.{StoreKind}
+use Rattle.vm_word.specs.declared.operation.StoreKind.TheVariants.{Sb, Sh, Sw}
+use Rattle.vm_word.specs.Operations.{alu_result, branch_holds, load_extended, load_width, mul_div_result, store_width}
+use Rattle.vm_isa.specs.Opcodes.{is_alu, is_load, ADD, SUB, XOR, OR, AND, SLT, SLTU, SLL, SRL, MUL, MULH, MULHSU, MULHU, DIV, DIVU, REM, BEQ, BNE, BLT, BLTU, BGE, LB, LH, LW, LBU, SB, SH}
 
-abbrev pub word_of_test : Bool → ℕ
-word_of_test b = if b then 1 else 0
+-- ---- the operations of opcodes
 
--- ADD to SRA (2.4): the low five bits of the second word are a shift's amount
+-- ADD to SRA
+abbrev pub alu_op : ℕ → AluOp
+alu_op op =
+    if nat_eq op ADD then Add
+    else if nat_eq op SUB then Sub
+    else if nat_eq op XOR then Xor
+    else if nat_eq op OR then Or
+    else if nat_eq op AND then And
+    else if nat_eq op SLT then Slt
+    else if nat_eq op SLTU then Sltu
+    else if nat_eq op SLL then Sll
+    else if nat_eq op SRL then Srl
+    else Sra
+
+-- MUL to REMU
+abbrev pub mul_div_op : ℕ → MulDivOp
+mul_div_op op =
+    if nat_eq op MUL then Mul
+    else if nat_eq op MULH then Mulh
+    else if nat_eq op MULHSU then Mulhsu
+    else if nat_eq op MULHU then Mulhu
+    else if nat_eq op DIV then Div
+    else if nat_eq op DIVU then Divu
+    else if nat_eq op REM then Rem
+    else Remu
+
+-- BEQ to BGEU
+abbrev pub branch_kind : ℕ → BranchKind
+branch_kind op =
+    if nat_eq op BEQ then Beq
+    else if nat_eq op BNE then Bne
+    else if nat_eq op BLT then Blt
+    else if nat_eq op BLTU then Bltu
+    else if nat_eq op BGE then Bge
+    else Bgeu
+
+-- LB to LHU
+abbrev pub load_kind : ℕ → LoadKind
+load_kind op =
+    if nat_eq op LB then Lb
+    else if nat_eq op LH then Lh
+    else if nat_eq op LW then Lw
+    else if nat_eq op LBU then Lbu
+    else Lhu
+
+-- SB to SW
+abbrev pub store_kind : ℕ → StoreKind
+store_kind op =
+    if nat_eq op SB then Sb
+    else if nat_eq op SH then Sh
+    else Sw
+
+-- ---- what they make of words
+
 unfoldable pub alu : ℕ → ℕ → ℕ → ℕ
-alu op a b =
-    if nat_eq op ADD then word_sum a b
-    else if nat_eq op SUB then word_difference a b
-    else if nat_eq op XOR then bit_xor a b
-    else if nat_eq op OR then bit_or a b
-    else if nat_eq op AND then bit_and a b
-    else if nat_eq op SLT then word_of_test (signed_less a b)
-    else if nat_eq op SLTU then word_of_test (nat_lt a b)
-    else if nat_eq op SLL then shifted_left a (b % 32)
-    else if nat_eq op SRL then shifted_right a (b % 32)
-    else shifted_right_signed a (b % 32)
+alu op a b = alu_result (alu_op op) a b
 
--- MUL to REMU (7.1 and 7.2)
 unfoldable pub mul_div : ℕ → ℕ → ℕ → ℕ
-mul_div op a b =
-    if nat_eq op MUL then low_product a b
-    else if nat_eq op MULH then high_product_signed a b
-    else if nat_eq op MULHSU then high_product_mixed a b
-    else if nat_eq op MULHU then high_product a b
-    else if nat_eq op DIV then quotient_signed a b
-    else if nat_eq op DIVU then quotient a b
-    else if nat_eq op REM then remainder_signed a b
-    else remainder a b
+mul_div op a b = mul_div_result (mul_div_op op) a b
 
 -- the word that an opcode of the register form makes of two
 unfoldable pub result : ℕ → ℕ → ℕ → ℕ
 result op a b = if is_alu op then alu op a b else mul_div op a b
 
--- whether a branch from BEQ to BGEU is taken (2.5)
+-- whether a branch is taken
 unfoldable pub is_taken : ℕ → ℕ → ℕ → Bool
-is_taken op a b =
-    if nat_eq op BEQ then nat_eq a b
-    else if nat_eq op BNE then not (nat_eq a b)
-    else if nat_eq op BLT then signed_less a b
-    else if nat_eq op BLTU then nat_lt a b
-    else if nat_eq op BGE then not (signed_less a b)
-    else not (nat_lt a b)
+is_taken op a b = branch_holds (branch_kind op) a b
 
--- how many bytes a load or a store has (2.6)
+-- how many bytes a load or a store has
 unfoldable pub width_of : ℕ → ℕ
-width_of op =
-    if nat_eq op LB then 1
-    else if nat_eq op LH then 2
-    else if nat_eq op LW then 4
-    else if nat_eq op LBU then 1
-    else if nat_eq op LHU then 2
-    else if nat_eq op SB then 1
-    else if nat_eq op SH then 2
-    else 4
+width_of op = if is_load op then load_width (load_kind op) else store_width (store_kind op)
 
 -- the number that was loaded, as a word
 unfoldable pub extended : ℕ → ℕ → ℕ
-extended op number =
-    if nat_eq op LB then sign_extended 8 number
-    else if nat_eq op LH then sign_extended 16 number
-    else number
+extended op number = load_extended (load_kind op) number
 
 -- the number that the bytes of a block from this place on make
 unfoldable pub number_in : List ℕ → ℕ → ℕ → ℕ

@@ -7,6 +7,7 @@ use crate::opcode::*;
 use crate::results::{is_taken, width};
 use crate::{VmInstr, space};
 use vm_word::of_limbs;
+use vm_word::operation::jump_target;
 
 /// Where an access is.
 #[derive(Clone, Copy, Debug, PartialEq, Eq)]
@@ -88,8 +89,7 @@ pub fn address(instr: &VmInstr, first: u32) -> u32
 fn jalr_target(instr: &VmInstr, first: u32) -> u32
     ensures { result ≡ jalr_target instr.now first }
 {
-    let sum = address(instr, first);
-    sum - sum % 2
+    jump_target(first, immediate(instr))
 }
 
 fn is_high(pointer: u32) -> bool

@@ -1,61 +1,89 @@
-//! What opcodes make of words.
+//! What opcodes make of words: the operations that they stand for.
 
-ghost use Rattle.std.specs.Prelude.{◌≡◌, ◌+◌, ◌<◌, ◌≤◌, IsTrue};
+ghost use Rattle.std.specs.Prelude.{◌≡◌, ◌+◌, ◌*◌, ◌^◌, ◌<◌, ◌≤◌, IsTrue};
+ghost use Rattle.vm_word.specs.Operations.{load_width};
 ghost use Rattle.vm_isa.specs.Opcodes.{is_load};
-ghost use Rattle.vm_isa.specs.Results.{alu as alu_of, mul_div as mul_div_of, result as result_of, is_taken as is_taken_of, width_of, extended, number_in, with_low};
+ghost use Rattle.vm_isa.specs.Results.{alu_op as alu_op_of, branch_kind as branch_kind_of, extended, is_taken as is_taken_of, load_kind as load_kind_of, mul_div_op as mul_div_op_of, number_in, result as result_of, store_kind as store_kind_of, width_of, with_low};
 
 use crate::opcode::*;
-use vm_word::arithmetic::{
-    divide, divide_signed, multiply_high, multiply_high_mixed, multiply_high_signed, multiply_low,
-    remainder, remainder_signed, shift_left, shift_right, shift_right_signed, sign_extend,
-    signed_less,
-};
 use vm_word::of_limbs;
+use vm_word::operation::{AluOp, BranchKind, LoadKind, MulDivOp, StoreKind};
 
-// The result of an opcode from ADD to SRA.
-#[tactic(auto, unfolding(crate::specs::Results::alu))]
-fn alu(op: u8, a: u32, b: u32) -> u32
-    ensures { result ≡ alu_of op a b }
+fn alu_op(op: u8) -> AluOp
+    ensures { result ≡ alu_op_of op }
 {
     match op {
-        ADD => a.wrapping_add(b),
-        SUB => a.wrapping_sub(b),
-        XOR => a ^ b,
-        OR => a | b,
-        AND => a & b,
-        SLT => u32::from(signed_less(a, b)),
-        SLTU => u32::from(a < b),
-        SLL => shift_left(a, b % 32),
-        SRL => shift_right(a, b % 32),
-        _ => shift_right_signed(a, b % 32),
+        ADD => AluOp::Add,
+        SUB => AluOp::Sub,
+        XOR => AluOp::Xor,
+        OR => AluOp::Or,
+        AND => AluOp::And,
+        SLT => AluOp::Slt,
+        SLTU => AluOp::Sltu,
+        SLL => AluOp::Sll,
+        SRL => AluOp::Srl,
+        _ => AluOp::Sra,
     }
 }
 
-// The result of an opcode from MUL to REMU.
-#[tactic(auto, unfolding(crate::specs::Results::mul_div))]
-fn mul_div(op: u8, a: u32, b: u32) -> u32
-    ensures { result ≡ mul_div_of op a b }
+fn mul_div_op(op: u8) -> MulDivOp
+    ensures { result ≡ mul_div_op_of op }
 {
     match op {
-        MUL => multiply_low(a, b),
-        MULH => multiply_high_signed(a, b),
-        MULHSU => multiply_high_mixed(a, b),
-        MULHU => multiply_high(a, b),
-        DIV => divide_signed(a, b),
-        DIVU => divide(a, b),
-        REM => remainder_signed(a, b),
-        _ => remainder(a, b),
+        MUL => MulDivOp::Mul,
+        MULH => MulDivOp::Mulh,
+        MULHSU => MulDivOp::Mulhsu,
+        MULHU => MulDivOp::Mulhu,
+        DIV => MulDivOp::Div,
+        DIVU => MulDivOp::Divu,
+        REM => MulDivOp::Rem,
+        _ => MulDivOp::Remu,
+    }
+}
+
+fn branch_kind(op: u8) -> BranchKind
+    ensures { result ≡ branch_kind_of op }
+{
+    match op {
+        BEQ => BranchKind::Beq,
+        BNE => BranchKind::Bne,
+        BLT => BranchKind::Blt,
+        BLTU => BranchKind::Bltu,
+        BGE => BranchKind::Bge,
+        _ => BranchKind::Bgeu,
+    }
+}
+
+fn load_kind(op: u8) -> LoadKind
+    ensures { result ≡ load_kind_of op }
+{
+    match op {
+        LB => LoadKind::Lb,
+        LH => LoadKind::Lh,
+        LW => LoadKind::Lw,
+        LBU => LoadKind::Lbu,
+        _ => LoadKind::Lhu,
+    }
+}
+
+fn store_kind(op: u8) -> StoreKind
+    ensures { result ≡ store_kind_of op }
+{
+    match op {
+        SB => StoreKind::Sb,
+        SH => StoreKind::Sh,
+        _ => StoreKind::Sw,
     }
 }
 
 /// The word that an opcode of the register form makes of two.
-#[tactic(auto, unfolding(crate::specs::Results::result))]
+#[tactic(auto, unfolding(crate::specs::Results::result, crate::specs::Results::alu, crate::specs::Results::mul_div))]
 pub fn result(op: u8, a: u32, b: u32) -> u32
     ensures { result ≡ result_of op a b }
 {
     match op {
-        ADD..=SRA => alu(op, a, b),
-        _ => mul_div(op, a, b),
+        ADD..=SRA => alu_op(op).result(a, b),
+        _ => mul_div_op(op).result(a, b),
     }
 }
 
@@ -64,14 +92,7 @@ pub fn result(op: u8, a: u32, b: u32) -> u32
 pub fn is_taken(op: u8, a: u32, b: u32) -> bool
     ensures { result ≡ is_taken_of op a b }
 {
-    match op {
-        BEQ => a == b,
-        BNE => a != b,
-        BLT => signed_less(a, b),
-        BLTU => a < b,
-        BGE => !signed_less(a, b),
-        _ => a >= b,
-    }
+    branch_kind(op).holds(a, b)
 }
 
 /// How many bytes a load or a store has.
@@ -82,9 +103,8 @@ pub fn width(op: u8) -> u32
     ensures word { result ≤ 4 }
 {
     match op {
-        LB | LBU | SB => 1,
-        LH | LHU | SH => 2,
-        _ => 4,
+        LB..=LHU => load_kind(op).width(),
+        _ => store_kind(op).width(),
     }
 }
 
@@ -104,20 +124,29 @@ fn half_in(block: [u8; 4], from: usize) -> u16
     u16::from_le_bytes([block[from], block[from + 1]])
 }
 
+// The number that a load reads in a block, from this place on.
+#[tactic(auto, using(crate::proofs::BlockLaws::number_in_first))]
+fn read_in(kind: LoadKind, block: [u8; 4], from: usize) -> u32
+    requires { from + load_width kind ≤ 4 }
+    ensures is { result ≡ number_in block from (load_width kind) }
+    ensures fits { result < 2 ^ (8 * load_width kind) }
+{
+    match kind {
+        LoadKind::Lb | LoadKind::Lbu => u32::from(byte_in(block, from)),
+        LoadKind::Lh | LoadKind::Lhu => u32::from(half_in(block, from)),
+        LoadKind::Lw => of_limbs(block),
+    }
+}
+
 /// The word that a load makes of a block, from this place in it on.
-#[tactic(auto, using(crate::proofs::BlockLaws::loaded_word, crate::proofs::BlockLaws::is_word_load), unfolding(crate::specs::Results::extended, crate::specs::Results::width_of))]
+#[tactic(auto, unfolding(crate::specs::Results::extended, crate::specs::Results::width_of))]
 pub fn loaded(op: u8, block: [u8; 4], from: usize) -> u32
     requires load { IsTrue (is_load op) }
     requires within { from + width_of op ≤ 4 }
     ensures { result ≡ extended op (number_in block from (width_of op)) }
 {
-    match op {
-        LB => sign_extend(8, u32::from(byte_in(block, from))),
-        LBU => u32::from(byte_in(block, from)),
-        LH => sign_extend(16, u32::from(half_in(block, from))),
-        LHU => u32::from(half_in(block, from)),
-        _ => of_limbs(block),
-    }
+    let kind = load_kind(op);
+    kind.extend(read_in(kind, block, from))
 }
 
 /// A block with the low bytes of another, as many as a store has, put at this place.

@@ -8,7 +8,6 @@ use Rattle.vm_host.specs.declared.Slot.TheVariants.{Elf, Second}
 use Rattle.vm_host.specs.State.{HostState, Input, then_more}
 use Rattle.elf_image.specs.Loaded.{Loaded}
 use Rattle.air_core.specs.Nop.{nop_sheet}
-use Rattle.vm_isa.specs.Words.{IsBytes}
 use Rattle.elf_image.specs.Image.{HasImage}
 use Rattle.vm_checker.specs.declared.Verdict.{Verdict}
 use Rattle.vm_checker.specs.declared.Verdict.TheVariants as verdict
@@ -35,40 +34,40 @@ record IsAccepted (elf tables : List ℕ) (found : Answer) : Type 0 where
 no_refusal_done : (v : Verdict) (found : Answer) (rejected : Verdict) → v ≡ rejected → found ≡ answer_of_verdict v → status_of (answer_of_verdict rejected) ≡ status.Rejected → status_of found ≡ status.Done → ⊥
 no_refusal_done v found rejected same is other done = cc (sym other ∙ sym (ap (λ x. status_of (answer_of_verdict x)) same) ∙ sym (ap status_of is) ∙ done)
 
-module _ (elf tables : List ℕ) (found : Answer) (bytes : IsBytes elf) (loaded : Loaded) (image : HasImage elf loaded) where
+module _ (elf tables : List ℕ) (found : Answer) (loaded : Loaded) (image : HasImage elf loaded) where
   judged_done : (v : Verdict) → found ≡ answer_of_verdict v → Judges (nop_sheet 8) loaded tables v → status_of found ≡ status.Done → IsAccepted elf tables found
   judged_done v is (accepted value file spelled accepts runs same) done = record {
     code = value.exit_code;
-    states = record { loaded = loaded; image = image; value = value; file = file; spelled = spelled; accepts = accepts; stated = refl; ends = runs elf bytes image };
+    states = record { loaded = loaded; image = image; value = value; file = file; spelled = spelled; accepts = accepts; stated = refl; ends = runs };
     is = is ∙ ap answer_of_verdict same;
   }
   judged_done v is (no_file none same) done = absurd (no_refusal_done v found _ same is refl done)
   judged_done v is (no_claim value file spelled wrong same) done = absurd (no_refusal_done v found _ same is refl done)
 
-check_done : (elf tables : List ℕ) (found : Answer) → IsBytes elf → OverElf elf (CheckAnswers tables) found → status_of found ≡ status.Done → IsAccepted elf tables found
-check_done elf tables found bytes (elf_refused why) done = absurd (elf_not_done elf found why done)
-check_done elf tables found bytes (over_image loaded image c) done = judged_done elf tables found bytes loaded image.image c.verdict c.is c.judges done
+check_done : (elf tables : List ℕ) (found : Answer) → OverElf elf (CheckAnswers tables) found → status_of found ≡ status.Done → IsAccepted elf tables found
+check_done elf tables found (elf_refused why) done = absurd (elf_not_done elf found why done)
+check_done elf tables found (over_image loaded image c) done = judged_done elf tables found loaded image.image c.verdict c.is c.judges done
 
 -- what status 0 says of the call, over inputs of these bytes
 abbrev Accepts : HostState → HostState → List ℕ → List ℕ → List ℕ → Type 0
 Accepts old new tables e h = (code : ℕ) × StatesRun e h code × (new.said ≡ then_more old.said (text_of (answer.Accepted (acceptance_of code))))
     × (new.input Second ≡ record { is_open = true; rest = option_map (λ bytes. []) (old.content Second tables) })
 
-accepted_by : (inputs : Slot → List ℕ) (old new : HostState) (elf tables : List ℕ) → Outcome inputs (Some (check elf tables)) old new status.Done → IsBytes (inputs Elf) → Accepts old new tables (inputs Elf) (inputs Second)
-accepted_by inputs old new elf tables (answered found says is text leaves) bytes =
-    let found_is = check_done (inputs Elf) (inputs Second) found bytes says (sym is) in (
+accepted_by : (inputs : Slot → List ℕ) (old new : HostState) (elf tables : List ℕ) → Outcome inputs (Some (check elf tables)) old new status.Done → Accepts old new tables (inputs Elf) (inputs Second)
+accepted_by inputs old new elf tables (answered found says is text leaves) =
+    let found_is = check_done (inputs Elf) (inputs Second) found says (sym is) in (
       found_is.code,
       found_is.states,
       text ∙ ap (λ (a : Answer). then_more old.said (text_of a)) found_is.is,
       leaves.1 (acceptance_of found_is.code) (ap Found found_is.is),
     )
-accepted_by inputs old new elf tables (fault is rose part leaves) bytes = absurd (cc (is))
-accepted_by inputs old new elf tables (memory is part leaves) bytes = absurd (cc (is))
+accepted_by inputs old new elf tables (fault is rose part leaves) = absurd (cc (is))
+accepted_by inputs old new elf tables (memory is part leaves) = absurd (cc (is))
 
 pub accepted_is_a_run : AcceptedIsARun
-accepted_is_a_run old new elf tables e h a p q bytes =
+accepted_is_a_run old new elf tables e h a p q =
     let one : e ≡ a.inputs Elf = told_is (old.content Elf elf) e (a.inputs Elf) p a.contents.0 in
     let two : h ≡ a.inputs Second = told_is (old.content Second tables) h (a.inputs Second) q a.contents.1.0 in
-    let found = accepted_by a.inputs old new elf tables a.outcome (subst IsBytes one bytes) in
+    let found = accepted_by a.inputs old new elf tables a.outcome in
     let states : StatesRun e h found.0 = subst (λ x. StatesRun x h found.0) (sym one) (subst (λ y. StatesRun (a.inputs Elf) y found.0) (sym two) found.1) in
     (found.0, states, found.2, found.3 ∙ ap (λ told. record { is_open = true; rest = option_map (λ bytes. []) told }) q)

@@ -25,7 +25,7 @@ use Rattle.vm_tool.specs.Command.{Command, run, transpile, check, words_of, IsIn
 use Rattle.vm_tool.specs.Files.{MAX_FILE, IsContent, AreContents, GivesImage, RefusesElf, too_long, refused, OverElf, elf_refused, over_image, RefusesHints}
 use Rattle.vm_tool.specs.RunCommand.{answer_of_end, RunAnswers, hints_refused, ended, RunEnds}
 use Rattle.vm_tool.specs.TranspileCommand.{Lists}
-use Rattle.vm_tool.specs.CheckCommand.{CheckAnswers}
+use Rattle.vm_tool.specs.CheckCommand.{CheckAnswers, CheckSucceeds}
 use Rattle.vm_tool.specs.Says.{Says, Succeeds}
 use Rattle.vm_tool.specs.Outcome.{all_names, OpensElfAlone, Outcome, answered, fault, memory, Answers}
 use Rattle.vm_tool.specs.Laws.{MeaningIsOne, AnswerIsOne, AreTold, IsAnswered, Determined, Complete, RefusedElfDecides, FaultHasCause}
@@ -139,17 +139,32 @@ is_determined command old new result told found a contents quiet is =
     answered_by a.inputs command old new result found a.outcome quiet
     (λ other says. answer_is_one told command other found (says_told old.content command a.inputs told other a.contents contents says) is)
 
--- a command that succeeds says so
-success_says : (inputs : Slot → List ℕ) (command : Command) (found : Answer) → Succeeds inputs command found → Says inputs (Some command) found × (status_of found ≡ status.Done)
-success_says inputs (run elf hints steps) found x =
-    (over_image x.loaded x.image (ended (record { short = x.short; end = Ended x.steps x.code x.public_bytes; ended = (x.within, x.ends); is = x.is })), ap status_of x.is)
-success_says inputs (transpile elf) found x = (over_image x.loaded x.image x.lists, ap status_of x.lists)
-success_says inputs (check elf tables) found x = (over_image x.loaded x.image (accepted_says (inputs Elf) (inputs Second) found x), ap status_of x.is)
+-- an accepted claim is the one answer
+check_alone : (elf tables : List ℕ) (found other : Answer) (x : CheckSucceeds elf tables found) → OverElf elf (CheckAnswers tables) other → other ≡ found
+check_alone elf tables found other x (elf_refused why) = absurd (refused_alone elf other x.loaded why x.image)
+check_alone elf tables found other x (over_image loaded image says) =
+    let same : loaded ≡ x.loaded = image_is_one elf loaded x.loaded image.image x.image.image in
+    accepted_says elf tables found other x (subst (λ l. CheckAnswers tables l other) same says)
+
+-- a command that succeeds says so, and nothing else
+success_alone : (inputs : Slot → List ℕ) (command : Command) (found other : Answer) → Succeeds inputs command found → Says inputs (Some command) other → other ≡ found
+success_alone inputs (run elf hints steps) found other x says =
+    answer_is_one inputs (Some (run elf hints steps)) other found says
+    (over_image x.loaded x.image (ended (record { short = x.short; end = Ended x.steps x.code x.public_bytes; ended = (x.within, x.ends); is = x.is })))
+success_alone inputs (transpile elf) found other x says = answer_is_one inputs (Some (transpile elf)) other found says (over_image x.loaded x.image x.lists)
+success_alone inputs (check elf tables) found other x says = check_alone (inputs Elf) (inputs Second) found other x says
+
+success_done : (inputs : Slot → List ℕ) (command : Command) (found : Answer) → Succeeds inputs command found → status_of found ≡ status.Done
+success_done inputs (run elf hints steps) found x = ap status_of x.is
+success_done inputs (transpile elf) found x = ap status_of x.lists
+success_done inputs (check elf tables) found x = ap status_of x.is
 
 pub is_complete : Complete
-is_complete command old new result told found a contents quiet x =
-    let says = success_says told command found x in
-    (says.1, is_determined (Some command) old new result told found a contents quiet says.0)
+is_complete command old new result told found a contents quiet x = (
+  success_done told command found x,
+  answered_by a.inputs (Some command) old new result found a.outcome quiet
+      (λ other says. success_alone told command found other x (says_told old.content (Some command) a.inputs told other a.contents contents says)),
+)
 
 -- ---- refused files
 

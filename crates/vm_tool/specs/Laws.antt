@@ -9,7 +9,6 @@ use Rattle.vm_host.specs.Calls.{Rose}
 use Rattle.elf_image.specs.Loaded.{Loaded}
 use Rattle.elf_image.specs.Image.{HasImage}
 use Rattle.rv_run.specs.Run.{Ends}
-use Rattle.vm_isa.specs.Words.{IsBytes}
 use Rattle.air_core.specs.Nop.{nop_sheet}
 use Rattle.table_format.specs.File.{FileValue, IsFile, spelling}
 use Rattle.vm_transpile.specs.Program.{program_of}
@@ -86,7 +85,7 @@ pub record StatesRun (elf tables : List ℕ) (code : ℕ) : Type 0 where
 abbrev pub AcceptedIsARun : Type 0
 AcceptedIsARun = (old new : HostState) (elf tables elf_bytes table_bytes : List ℕ)
     → Answers (Some (check elf tables)) old new status.Done
-    → old.content Elf elf ≡ Some elf_bytes → old.content Second tables ≡ Some table_bytes → IsBytes elf_bytes
+    → old.content Elf elf ≡ Some elf_bytes → old.content Second tables ≡ Some table_bytes
     → (code : ℕ) × StatesRun elf_bytes table_bytes code × (new.said ≡ then_more old.said (text_of (answer.Accepted (acceptance_of code))))
     × (new.input Second ≡ record { is_open = true; rest = Some [] })
 

@@ -3,15 +3,15 @@ use Rattle.std.proofs.Common.{◌≡◌, ℕ, ◌+◌, ◌-◌, ◌/◌, ◌%◌
 use Rattle.std.proofs.Math.Nat.{div-le_self, mod-le}
 use Rattle.std.proofs.lemmas.Bool.Decides.{nat_tests}
 use Rattle.std.proofs.lemmas.Nat.{or_lt, xor_lt, and_le_l, mul-le, shr_below}
-use Rattle.rv_decode.specs.declared.instr.AluOp.{AluOp}
-use Rattle.rv_decode.specs.declared.instr.AluOp.TheVariants.{Add, Sub, Sll, Slt, Sltu, Xor, Srl, Sra, Or, And}
-use Rattle.rv_decode.specs.declared.instr.MulDivOp.{MulDivOp}
-use Rattle.rv_decode.specs.declared.instr.MulDivOp.TheVariants.{Mul, Mulh, Mulhsu, Mulhu, Div, Divu, Rem, Remu}
-use Rattle.rv_decode.specs.declared.instr.LoadKind.{LoadKind}
-use Rattle.rv_decode.specs.declared.instr.LoadKind.TheVariants.{Lb, Lh, Lw, Lbu, Lhu}
+use Rattle.vm_word.specs.declared.operation.AluOp.{AluOp}
+use Rattle.vm_word.specs.declared.operation.AluOp.TheVariants.{Add, Sub, Sll, Slt, Sltu, Xor, Srl, Sra, Or, And}
+use Rattle.vm_word.specs.declared.operation.MulDivOp.{MulDivOp}
+use Rattle.vm_word.specs.declared.operation.MulDivOp.TheVariants.{Mul, Mulh, Mulhsu, Mulhu, Div, Divu, Rem, Remu}
+use Rattle.vm_word.specs.declared.operation.LoadKind.{LoadKind}
+use Rattle.vm_word.specs.declared.operation.LoadKind.TheVariants.{Lb, Lh, Lw, Lbu, Lhu}
 use Rattle.vm_word.specs.Arithmetic.{is_negative, signed_less, shifted_right, high_product, magnitude, negated_if}
 use Rattle.rv_run.specs.Memory.{number_at}
-use Rattle.rv_run.specs.Step.{alu, mul_div, extended, load_width, word_of_test}
+use Rattle.vm_word.specs.Operations.{alu_result, mul_div_result, load_extended, load_width, word_of_test}
 
 test_word : (b : Bool) → word_of_test b < 2 ^ 32
 test_word true = omega arith
@@ -27,7 +27,7 @@ signed_shift_by a by true low few =
     omega (arith, div-le_self a (2 ^ by), under)
 signed_shift_by a by false low few = omega (arith, div-le_self a (2 ^ by))
 
-pub alu_word : (op : AluOp) (a b : ℕ) → a < 2 ^ 32 → b < 2 ^ 32 → alu op a b < 2 ^ 32
+pub alu_word : (op : AluOp) (a b : ℕ) → a < 2 ^ 32 → b < 2 ^ 32 → alu_result op a b < 2 ^ 32
 alu_word Add a b x y = omega arith
 alu_word Sub a b x y = omega arith
 alu_word Sll a b x y = omega arith
@@ -57,7 +57,7 @@ choice_word : (b : Bool) (x y : ℕ) → x < 2 ^ 32 → y < 2 ^ 32 → cond b x 
 choice_word true x y p q = p
 choice_word false x y p q = q
 
-pub mul_div_word : (op : MulDivOp) (a b : ℕ) → a < 2 ^ 32 → b < 2 ^ 32 → mul_div op a b < 2 ^ 32
+pub mul_div_word : (op : MulDivOp) (a b : ℕ) → a < 2 ^ 32 → b < 2 ^ 32 → mul_div_result op a b < 2 ^ 32
 mul_div_word Mul a b x y = omega arith
 mul_div_word Mulh a b x y = omega arith
 mul_div_word Mulhsu a b x y = omega arith
@@ -79,7 +79,7 @@ half_extended : (n : ℕ) (b : Bool) → n < 65536 → cond b n (n + (2 ^ 32 - 2
 half_extended n true low = omega arith
 half_extended n false low = omega arith
 
-pub loaded_word : (kind : LoadKind) (m : ℕ → ℕ) (a : ℕ) → ((x : ℕ) → m x < 256) → extended kind (number_at m a (load_width kind)) < 2 ^ 32
+pub loaded_word : (kind : LoadKind) (m : ℕ → ℕ) (a : ℕ) → ((x : ℕ) → m x < 256) → load_extended kind (number_at m a (load_width kind)) < 2 ^ 32
 loaded_word Lb m a h = let one = h a in byte_extended (number_at m a 1) (nat_lt (number_at m a 1) (2 ^ (8 - 1))) (omega (arith, one))
 loaded_word Lh m a h = let one = h a in let two = h (a + 1) in half_extended (number_at m a 2) (nat_lt (number_at m a 2) (2 ^ (16 - 1))) (omega (arith, one, two))
 loaded_word Lw m a h = omega (arith, h a, h (a + 1), h (a + 1 + 1), h (a + 1 + 1 + 1))

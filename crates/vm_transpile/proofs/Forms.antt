@@ -1,16 +1,16 @@
 -- The rows of each form are in range.
 use Rattle.std.proofs.Common.{◌≡◌, ℕ, ◌%◌, ◌^◌, ◌<◌, ◌==◌, Bool, true, false, cond, refl, arith, rules}
 use Rattle.std.proofs.lemmas.Bool.Decides.{nat_tests}
-use Rattle.rv_decode.specs.declared.instr.AluOp.{AluOp}
-use Rattle.rv_decode.specs.declared.instr.AluOp.TheVariants.{Add}
-use Rattle.rv_decode.specs.declared.instr.BranchKind.{BranchKind}
-use Rattle.rv_decode.specs.declared.instr.BranchKind.TheVariants.{Beq}
-use Rattle.rv_decode.specs.declared.instr.LoadKind.{LoadKind}
-use Rattle.rv_decode.specs.declared.instr.LoadKind.TheVariants.{Lb}
-use Rattle.rv_decode.specs.declared.instr.MulDivOp.{MulDivOp}
-use Rattle.rv_decode.specs.declared.instr.MulDivOp.TheVariants.{Mul}
-use Rattle.rv_decode.specs.declared.instr.StoreKind.{StoreKind}
-use Rattle.rv_decode.specs.declared.instr.StoreKind.TheVariants.{Sb}
+use Rattle.vm_word.specs.declared.operation.AluOp.{AluOp}
+use Rattle.vm_word.specs.declared.operation.AluOp.TheVariants.{Add}
+use Rattle.vm_word.specs.declared.operation.BranchKind.{BranchKind}
+use Rattle.vm_word.specs.declared.operation.BranchKind.TheVariants.{Beq}
+use Rattle.vm_word.specs.declared.operation.LoadKind.{LoadKind}
+use Rattle.vm_word.specs.declared.operation.LoadKind.TheVariants.{Lb}
+use Rattle.vm_word.specs.declared.operation.MulDivOp.{MulDivOp}
+use Rattle.vm_word.specs.declared.operation.MulDivOp.TheVariants.{Mul}
+use Rattle.vm_word.specs.declared.operation.StoreKind.{StoreKind}
+use Rattle.vm_word.specs.declared.operation.StoreKind.TheVariants.{Sb}
 use Rattle.rv_decode.specs.declared.instr.Instr.{Instr}
 use Rattle.rv_decode.specs.declared.instr.Instr.TheVariants.{Lui, Auipc, Jal, Jalr, Branch, Load, Store, AluImm, Alu, MulDiv, Fence, Terminate, HintStore, Reveal, ShaBlock}
 use Rattle.rv_decode.specs.Ranges.{HasFieldsInRange}

@@ -2,13 +2,13 @@
 use Rattle.std.proofs.Common.{◌≡◌, ℕ, ◌-◌, ◌*◌, ◌%◌, ◌^◌, ◌<◌, ◌≤◌, ◌==◌, Bool, true, false, cond, not, nat_lt, None, if◌then◌else◌, length, List, [], ◌∷◌, take, refl, sym, ap, ◌∙◌, subst, arith}
 use Rattle.std.proofs.lemmas.Bool.Decides.{nat_tests}
 use Rattle.rv_decode.specs.declared.instr.Instr.TheVariants.{Branch, Jal, Jalr}
-use Rattle.rv_decode.specs.declared.instr.BranchKind.{BranchKind}
-use Rattle.rv_decode.specs.declared.instr.BranchKind.TheVariants.{Beq}
+use Rattle.vm_word.specs.declared.operation.BranchKind.{BranchKind}
+use Rattle.vm_word.specs.declared.operation.BranchKind.TheVariants.{Beq}
 use Rattle.vm_word.specs.Word.{limbs_of, word_of_limbs}
 use Rattle.vm_word.specs.Arithmetic.{word_sum}
 use Rattle.rv_run.specs.Machine.{Machine}
 use Rattle.rv_run.specs.Step.{register, goes, goes_on, jumps, put, at_target, jalr_target}
-use Rattle.rv_run.specs.Step.{is_taken as is_taken_by}
+use Rattle.vm_word.specs.Operations.{branch_holds}
 use Rattle.vm_isa.specs.declared.instr.VmInstr.{VmInstr}
 use Rattle.vm_isa.specs.Results.{is_taken}
 use Rattle.vm_isa.specs.Means.{is_refused, bars_first, bars_second, imm_of, is_high, new_at, next_of, place, places_by, word_at}
@@ -48,7 +48,7 @@ record Branches (i : VmInstr) (pc target : ℕ) (kind : BranchKind) (rs1 rs2 : �
   places : (b c : ℕ) → places_by i b c ≡ place 0 1 (4 * rs1) ∷ place 1 1 (4 * rs2) ∷ []
   keep0 : (olds : List (List ℕ)) (given x : List ℕ) → new_at i olds given 0 x ≡ x
   keep1 : (olds : List (List ℕ)) (given x : List ℕ) → new_at i olds given 1 x ≡ x
-  next : (x y : List ℕ) → next_of i (x ∷ y ∷ []) ≡ (if is_taken_by kind (word_of_limbs x) (word_of_limbs y) then target else word_sum pc 4)
+  next : (x y : List ℕ) → next_of i (x ∷ y ∷ []) ≡ (if branch_holds kind (word_of_limbs x) (word_of_limbs y) then target else word_sum pc 4)
   fits : (x y : List ℕ) → is_refused i (x ∷ y ∷ []) ≡ false
   used : hints_used i.op ≡ 0
 
@@ -120,7 +120,7 @@ module _ (m : Machine) (s : VmState) (is : IsMachine m) (h : Same m s) where
       let back : word_of_limbs X ≡ register m rs1 = word_back m rs1 is in
       let more : word_of_limbs Y ≡ register m rs2 = word_back m rs2 is in
       let address : ℕ = word_sum m.pc offset in
-      let taken : Bool = is_taken_by kind (register m rs1) (register m rs2) in
+      let taken : Bool = branch_holds kind (register m rs1) (register m rs2) in
       let used : hints_used i.op ≡ 0 = row.used in
       let can : Can i s (X ∷ Y ∷ []) = can2 i s p q row.places row.keep0 X Y (register m rs1) hx back hy (row.fits X Y) (is_register rs1 one) (is_register rs2 two) (omega arith) in
       let next : next_of i (X ∷ Y ∷ []) ≡ cond taken (within_program address) (word_sum m.pc 4) = row.next X Y ∙ rw (back, more) refl in

@@ -6,15 +6,15 @@ use Rattle.std.proofs.lemmas.List.{length-set, get_or-set_same, get_or-set_other
 use Rattle.byteorder.specs.Endian.{little_bytes}
 use Rattle.rv_decode.specs.declared.instr.Instr.{Instr}
 use Rattle.rv_decode.specs.declared.instr.Instr.TheVariants.{Lui, Auipc, Jal, Jalr, Branch, Load, Store, AluImm, Alu, MulDiv, Fence, Terminate, HintStore, Reveal, ShaBlock}
-use Rattle.rv_decode.specs.declared.instr.StoreKind.{StoreKind}
-use Rattle.rv_decode.specs.declared.instr.StoreKind.TheVariants.{Sb, Sh, Sw}
+use Rattle.vm_word.specs.declared.operation.StoreKind.{StoreKind}
+use Rattle.vm_word.specs.declared.operation.StoreKind.TheVariants.{Sb, Sh, Sw}
 use Rattle.rv_decode.specs.Ranges.{HasFieldsInRange}
 use Rattle.vm_word.specs.Arithmetic.{word_sum}
 use Rattle.rv_run.specs.Machine.{Machine}
 use Rattle.rv_run.specs.Memory.{number_at, with_bytes, with_words}
-use Rattle.rv_run.specs.Step.{goes, register, jumps, put, make_public, obstacle, performed, step_by, store_width}
-use Rattle.rv_run.specs.Step.{alu as alu_by, mul_div as mul_div_by, extended as extended_by}
-use Rattle.rv_run.specs.Step.{load_width, jalr_target, address_of, compressed, branch_taken}
+use Rattle.rv_run.specs.Step.{goes, register, jumps, put, make_public, obstacle, performed, step_by}
+use Rattle.vm_word.specs.Operations.{alu_result, mul_div_result, load_extended, load_width, store_width}
+use Rattle.rv_run.specs.Step.{jalr_target, address_of, compressed, branch_taken}
 use Rattle.rv_run.proofs.HintsTaken.{unless_parts}
 use Rattle.vm_isa.specs.Words.{IsBytes}
 use Rattle.vm_transpile.specs.Same.{IsMachine}
@@ -142,13 +142,13 @@ module _ (m : Machine) (is : IsMachine m) where
   performed_kept (Jalr rd rs1 imm) next f free e = goes_same _ next (put_kept (jalr_target m rs1 imm) rd (word_sum m.pc 4) (omega arith) f.0 (omega arith)) e
   performed_kept (Branch kind rs1 rs2 offset) next f free e = goes_same _ next (branch_kept (branch_taken m kind rs1 rs2) (word_sum m.pc offset) (word_sum m.pc 4) (omega arith) (omega arith)) e
   performed_kept (Load kind rd rs1 imm) next f free e =
-      goes_same _ next (put_kept (word_sum m.pc 4) rd (extended_by kind (number_at m.memory (address_of m rs1 imm) (load_width kind))) (omega arith) f.0 (loaded_word kind m.memory (address_of m rs1 imm) is.bytes)) e
+      goes_same _ next (put_kept (word_sum m.pc 4) rd (load_extended kind (number_at m.memory (address_of m rs1 imm) (load_width kind))) (omega arith) f.0 (loaded_word kind m.memory (address_of m rs1 imm) is.bytes)) e
   performed_kept (Store kind rs1 rs2 imm) next f free e =
       goes_same _ next (stored_kept (word_sum m.pc 4) (with_bytes m.memory (address_of m rs1 imm) (little_bytes (store_width kind) (register m rs2))) m.hints (omega arith)
       (stored_bytes m.memory (address_of m rs1 imm) (little_bytes (store_width kind) (register m rs2)) is.bytes (number_bytes kind (register m rs2))) is.hints) e
-  performed_kept (AluImm op rd rs1 imm) next f free e = goes_same _ next (put_kept (word_sum m.pc 4) rd (alu_by op (register m rs1) imm) (omega arith) f.0 (alu_word op (register m rs1) imm (is.words rs1) (operand_word op imm f.2))) e
-  performed_kept (Alu op rd rs1 rs2) next f free e = goes_same _ next (put_kept (word_sum m.pc 4) rd (alu_by op (register m rs1) (register m rs2)) (omega arith) f.0 (alu_word op (register m rs1) (register m rs2) (is.words rs1) (is.words rs2))) e
-  performed_kept (MulDiv op rd rs1 rs2) next f free e = goes_same _ next (put_kept (word_sum m.pc 4) rd (mul_div_by op (register m rs1) (register m rs2)) (omega arith) f.0 (mul_div_word op (register m rs1) (register m rs2) (is.words rs1) (is.words rs2))) e
+  performed_kept (AluImm op rd rs1 imm) next f free e = goes_same _ next (put_kept (word_sum m.pc 4) rd (alu_result op (register m rs1) imm) (omega arith) f.0 (alu_word op (register m rs1) imm (is.words rs1) (operand_word op imm f.2))) e
+  performed_kept (Alu op rd rs1 rs2) next f free e = goes_same _ next (put_kept (word_sum m.pc 4) rd (alu_result op (register m rs1) (register m rs2)) (omega arith) f.0 (alu_word op (register m rs1) (register m rs2) (is.words rs1) (is.words rs2))) e
+  performed_kept (MulDiv op rd rs1 rs2) next f free e = goes_same _ next (put_kept (word_sum m.pc 4) rd (mul_div_result op (register m rs1) (register m rs2)) (omega arith) f.0 (mul_div_word op (register m rs1) (register m rs2) (is.words rs1) (is.words rs2))) e
   performed_kept Fence next f free e = goes_same _ next (moved (word_sum m.pc 4) (omega arith)) e
   performed_kept (Terminate code) next f free e = absurd (cc)
   performed_kept (HintStore base imm) next f free e =

@@ -3,7 +3,6 @@ pub mod Texts
 pub mod Forms
 pub mod Ranges
 pub mod Lookups
-pub mod Meanings
 pub mod WordBytes
 pub mod Updates
 pub mod Turns

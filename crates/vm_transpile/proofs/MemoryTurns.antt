@@ -2,8 +2,8 @@
 use Rattle.std.proofs.Common.{◌≡◌, ℕ, ◌-◌, ◌*◌, ◌%◌, ◌^◌, ◌<◌, ◌==◌, Bool, true, false, cond, ◌&&◌, ◌||◌, not, nat_eq, nat_lt, None, Some, Option, List, [], ◌∷◌, refl, sym, ap, ◌∙◌, subst, arith}
 use Rattle.std.proofs.lemmas.Bool.Decides.{nat_tests}
 use Rattle.rv_decode.specs.declared.instr.Instr.TheVariants.{Load}
-use Rattle.rv_decode.specs.declared.instr.LoadKind.{LoadKind}
-use Rattle.rv_decode.specs.declared.instr.LoadKind.TheVariants.{Lb}
+use Rattle.vm_word.specs.declared.operation.LoadKind.{LoadKind}
+use Rattle.vm_word.specs.declared.operation.LoadKind.TheVariants.{Lb}
 use Rattle.vm_word.specs.Word.{limbs_of, word_of_limbs}
 use Rattle.vm_word.specs.Arithmetic.{word_sum}
 use Rattle.vm_word.proofs.WordLemmas.{word_of_limbs-limbs_of}
@@ -11,8 +11,8 @@ use Rattle.rv_run.specs.declared.outcome.Cause.{Cause}
 use Rattle.rv_run.specs.declared.outcome.Cause.TheVariants.{Misaligned, OutOfRange}
 use Rattle.rv_run.specs.Machine.{Machine}
 use Rattle.rv_run.specs.Memory.{number_at}
-use Rattle.rv_run.specs.Step.{register, goes, goes_on, put, at_address, load_width}
-use Rattle.rv_run.specs.Step.{extended as extended_by}
+use Rattle.rv_run.specs.Step.{register, goes, goes_on, put, at_address}
+use Rattle.vm_word.specs.Operations.{load_extended, load_width}
 use Rattle.vm_isa.specs.declared.instr.VmInstr.{VmInstr}
 use Rattle.vm_isa.specs.Results.{width_of, extended, number_in}
 use Rattle.vm_isa.specs.Means.{is_refused, bars_first, bars_second, imm_of, is_bad, new_at, next_of, place, places_by, word_at}
@@ -70,7 +70,7 @@ record Loads3 (i : VmInstr) (pc : ℕ) (kind : LoadKind) (rd rs1 v : ℕ) : Type
   places : (b c : ℕ) → places_by i b c ≡ place 0 1 (4 * rs1) ∷ place 1 2 (word_sum b v - word_sum b v % 4) ∷ place 2 1 (4 * rd) ∷ []
   keep0 : (olds : List (List ℕ)) (given x : List ℕ) → new_at i olds given 0 x ≡ x
   keep1 : (olds : List (List ℕ)) (given x : List ℕ) → new_at i olds given 1 x ≡ x
-  new : (x y z given : List ℕ) → new_at i (x ∷ y ∷ z ∷ []) given 2 z ≡ limbs_of (extended_by kind (number_in y (word_sum (word_of_limbs x) v % 4) (load_width kind)))
+  new : (x y z given : List ℕ) → new_at i (x ∷ y ∷ z ∷ []) given 2 z ≡ limbs_of (load_extended kind (number_in y (word_sum (word_of_limbs x) v % 4) (load_width kind)))
   next : (olds : List (List ℕ)) → next_of i olds ≡ word_sum pc 4
   fits : (x y z : List ℕ) → is_refused i (x ∷ y ∷ z ∷ []) ≡ is_bad (load_width kind) (word_sum (word_of_limbs x) v)
   used : hints_used i.op ≡ 0
@@ -100,12 +100,12 @@ imm_word imm low = word_of_limbs-limbs_of imm low
 module _ (m : Machine) (s : VmState) (is : IsMachine m) (h : Same m s) where
   -- what a load finds in its block
   found : (kind : LoadKind) (a : ℕ) → is_bad (load_width kind) a ≡ false
-      → limbs_of (extended_by kind (number_in (s.blocks 2 (a - a % 4)) (a % 4) (load_width kind))) ≡ limbs_of (extended_by kind (number_at m.memory a (load_width kind)))
+      → limbs_of (load_extended kind (number_in (s.blocks 2 (a - a % 4)) (a % 4) (load_width kind))) ≡ limbs_of (load_extended kind (number_at m.memory a (load_width kind)))
   found kind a good =
       let low : a < 2 ^ 29 = fits_low (load_width kind) a good in
       let block : s.blocks 2 (a - a % 4) ≡ memory_block m.memory (a - a % 4) = h.memory (a - a % 4) (omega arith) (omega arith) in
       let number : number_at m.memory a (load_width kind) ≡ number_in (memory_block m.memory (a - a % 4)) (a % 4) (load_width kind) = loaded_here kind m.memory a (fits_aligned (load_width kind) a good) in
-      ap (λ (x : List ℕ). limbs_of (extended_by kind (number_in x (a % 4) (load_width kind)))) block ∙ ap (λ (n : ℕ). limbs_of (extended_by kind n)) (sym number)
+      ap (λ (x : List ℕ). limbs_of (load_extended kind (number_in x (a % 4) (load_width kind)))) block ∙ ap (λ (n : ℕ). limbs_of (load_extended kind n)) (sym number)
 
   load3_turn : (kind : LoadKind) (rd rs1 imm : ℕ) (i : VmInstr) → Loads3 i m.pc kind rd rs1 imm → rd < 32 → rs1 < 32 → (rd == 0) ≡ false → Turns m (Load kind rd rs1 imm) i s
   load3_turn kind rd rs1 imm i loads d one some =
@@ -119,12 +119,12 @@ module _ (m : Machine) (s : VmState) (is : IsMachine m) (h : Same m s) where
       let keep = λ (b : ℕ). loads.keep1 in
       let hx : s.blocks 1 (4 * rs1) ≡ X = h.registers rs1 one in
       let back : word_of_limbs X ≡ register m rs1 = word_back m rs1 is in
-      let word : List ℕ = limbs_of (extended_by kind (number_in Y (a % 4) (load_width kind))) in
+      let word : List ℕ = limbs_of (load_extended kind (number_in Y (a % 4) (load_width kind))) in
       let new : (given : List ℕ) → new_at i (X ∷ Y ∷ Z ∷ []) given 2 Z ≡ word = λ given. loads.new X Y Z given ∙ rw back refl in
       let used : hints_used i.op ≡ 0 = loads.used in
       let bad : is_refused i (X ∷ Y ∷ Z ∷ []) ≡ is_bad (load_width kind) a = loads.fits X Y Z ∙ rw back refl in
-      let same = λ (good : is_bad (load_width kind) a ≡ false). same_put m s (word_sum m.pc 4) rd (extended_by kind (number_at m.memory a (load_width kind))) word is h d some (found kind a good) in
-      turns m (Load kind rd rs1 imm) i s (goes_on (put rd (extended_by kind (number_at m.memory a (load_width kind))) m)) (X ∷ Y ∷ Z ∷ [])
+      let same = λ (good : is_bad (load_width kind) a ≡ false). same_put m s (word_sum m.pc 4) rd (load_extended kind (number_at m.memory a (load_width kind))) word is h d some (found kind a good) in
+      turns m (Load kind rd rs1 imm) i s (goes_on (put rd (load_extended kind (number_at m.memory a (load_width kind))) m)) (X ∷ Y ∷ Z ∷ [])
       (record { pc = word_sum m.pc 4; blocks = with_block s.blocks 1 (4 * rd) word; hints = s.hints }) refl
       (record {
         forced = forced3 i s p q r loads.places loads.keep0 keep X Y Z (register m rs1) hx back refl refl;
@@ -151,7 +151,7 @@ module _ (m : Machine) (s : VmState) (is : IsMachine m) (h : Same m s) where
       let back : word_of_limbs X ≡ register m rs1 = word_back m rs1 is in
       let used : hints_used i.op ≡ 0 = loads.used in
       let bad : is_refused i (X ∷ Y ∷ []) ≡ is_bad (load_width kind) a = loads.fits X Y ∙ rw back refl in
-      let w : ℕ = extended_by kind (number_at m.memory a (load_width kind)) in
+      let w : ℕ = load_extended kind (number_at m.memory a (load_width kind)) in
       turns m (Load kind rd rs1 imm) i s (goes_on m) (X ∷ Y ∷ [])
       (record { pc = word_sum m.pc 4; blocks = s.blocks; hints = s.hints }) (ap (λ (n : Machine). goes (goes_on n)) (put_x0 m rd w none))
       (record {

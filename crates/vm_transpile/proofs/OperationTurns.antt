@@ -2,17 +2,17 @@
 use Rattle.std.proofs.Common.{◌≡◌, ℕ, ◌^◌, ◌<◌, ◌≤◌, ◌==◌, None, length, Bool, true, false, cond, [], refl, sym, ap, ◌∙◌, subst, arith}
 use Rattle.rv_decode.specs.declared.instr.Instr.{Instr}
 use Rattle.rv_decode.specs.declared.instr.Instr.TheVariants.{Lui, Auipc, AluImm, Alu, MulDiv, Fence}
-use Rattle.rv_decode.specs.declared.instr.AluOp.{AluOp}
-use Rattle.rv_decode.specs.declared.instr.AluOp.TheVariants.{Add, Sub, Sll, Slt, Sltu, Xor, Srl, Sra, Or, And}
-use Rattle.rv_decode.specs.declared.instr.MulDivOp.{MulDivOp}
-use Rattle.rv_decode.specs.declared.instr.MulDivOp.TheVariants.{Mul}
+use Rattle.vm_word.specs.declared.operation.AluOp.{AluOp}
+use Rattle.vm_word.specs.declared.operation.AluOp.TheVariants.{Add, Sub, Sll, Slt, Sltu, Xor, Srl, Sra, Or, And}
+use Rattle.vm_word.specs.declared.operation.MulDivOp.{MulDivOp}
+use Rattle.vm_word.specs.declared.operation.MulDivOp.TheVariants.{Mul}
 use Rattle.rv_decode.specs.Ranges.{IsOperandOf}
 use Rattle.vm_word.specs.Word.{limbs_of, word_of_limbs}
 use Rattle.vm_word.specs.Arithmetic.{word_sum}
 use Rattle.vm_word.proofs.WordLemmas.{word_of_limbs-limbs_of}
 use Rattle.rv_run.specs.Machine.{Machine}
 use Rattle.rv_run.specs.Step.{register, goes, goes_on, obstacle, performed, put}
-use Rattle.rv_run.specs.Step.{alu as alu_by, mul_div as mul_div_by}
+use Rattle.vm_word.specs.Operations.{alu_result, mul_div_result}
 use Rattle.vm_isa.specs.declared.instr.VmInstr.{VmInstr}
 use Rattle.vm_isa.specs.declared.opcode.TheConstants.{LUI, AUIPC}
 use Rattle.vm_isa.specs.Results.{alu, mul_div, result}
@@ -39,17 +39,17 @@ imm_row pc op rd rs1 imm = record (bare pc (alu_opcode op)) { rd = rd; rs1 = rs1
 abbrev upper_row : ℕ → ℕ → ℕ → ℕ → VmInstr
 upper_row pc op rd imm = record (bare pc op) { rd = rd; write = true; imm = limbs_of imm }
 
-alu_makes : (op : AluOp) (pc rd rs1 rs2 : ℕ) → Makes3 (alu_row pc op rd rs1 rs2) pc rd rs1 rs2 (alu_by op)
+alu_makes : (op : AluOp) (pc rd rs1 rs2 : ℕ) → Makes3 (alu_row pc op rd rs1 rs2) pc rd rs1 rs2 (alu_result op)
 unfolding places_by new_at next_of is_refused bars_first bars_second result alu word_at
 alu_makes Add pc rd rs1 rs2 = record { places = λ b c. refl; keep0 = λ o g x. refl; keep1 = λ o g x. refl; new = λ x y z g. refl; next = λ o. refl; fits = λ x y z. refl; used = refl }
 alu_makes _ pc rd rs1 rs2 = record { places = λ b c. refl; keep0 = λ o g x. refl; keep1 = λ o g x. refl; new = λ x y z g. refl; next = λ o. refl; fits = λ x y z. refl; used = refl }
 
-mul_makes : (op : MulDivOp) (pc rd rs1 rs2 : ℕ) → Makes3 (mul_row pc op rd rs1 rs2) pc rd rs1 rs2 (mul_div_by op)
+mul_makes : (op : MulDivOp) (pc rd rs1 rs2 : ℕ) → Makes3 (mul_row pc op rd rs1 rs2) pc rd rs1 rs2 (mul_div_result op)
 unfolding places_by new_at next_of is_refused bars_first bars_second result mul_div word_at
 mul_makes Mul pc rd rs1 rs2 = record { places = λ b c. refl; keep0 = λ o g x. refl; keep1 = λ o g x. refl; new = λ x y z g. refl; next = λ o. refl; fits = λ x y z. refl; used = refl }
 mul_makes _ pc rd rs1 rs2 = record { places = λ b c. refl; keep0 = λ o g x. refl; keep1 = λ o g x. refl; new = λ x y z g. refl; next = λ o. refl; fits = λ x y z. refl; used = refl }
 
-imm_makes : (op : AluOp) (pc rd rs1 imm : ℕ) → Makes2 (imm_row pc op rd rs1 imm) pc rd rs1 (λ a. alu_by op a (word_of_limbs (limbs_of imm)))
+imm_makes : (op : AluOp) (pc rd rs1 imm : ℕ) → Makes2 (imm_row pc op rd rs1 imm) pc rd rs1 (λ a. alu_result op a (word_of_limbs (limbs_of imm)))
 unfolding places_by new_at next_of is_refused bars_first bars_second result alu word_at imm_of
 imm_makes Add pc rd rs1 imm = record { places = λ b c. refl; keep = λ o g x. refl; new = λ x z g. refl; next = λ o. refl; fits = λ x z. refl; used = refl }
 imm_makes _ pc rd rs1 imm = record { places = λ b c. refl; keep = λ o g x. refl; new = λ x z g. refl; next = λ o. refl; fits = λ x z. refl; used = refl }
@@ -107,21 +107,21 @@ module _ (m : Machine) (s : VmState) (is : IsMachine m) (h : Same m s) where
 
   pub alu_turn : (op : AluOp) (rd rs1 rs2 : ℕ) → rd < 32 → rs1 < 32 → rs2 < 32 → Turns m (Alu op rd rs1 rs2) (row_of m.pc (Alu op rd rs1 rs2)) s
   alu_turn op rd rs1 rs2 d one two =
-      or_nop_turn (Alu op rd rs1 rs2) (alu_row m.pc op rd rs1 rs2) rd (alu_by op (register m rs1) (register m rs2)) (rd == 0) refl refl refl d
-      (puts3 m s is h (alu_row m.pc op rd rs1 rs2) rd rs1 rs2 (alu_by op) (alu_makes op m.pc rd rs1 rs2) d one two) refl refl
+      or_nop_turn (Alu op rd rs1 rs2) (alu_row m.pc op rd rs1 rs2) rd (alu_result op (register m rs1) (register m rs2)) (rd == 0) refl refl refl d
+      (puts3 m s is h (alu_row m.pc op rd rs1 rs2) rd rs1 rs2 (alu_result op) (alu_makes op m.pc rd rs1 rs2) d one two) refl refl
 
   pub mul_turn : (op : MulDivOp) (rd rs1 rs2 : ℕ) → rd < 32 → rs1 < 32 → rs2 < 32 → Turns m (MulDiv op rd rs1 rs2) (row_of m.pc (MulDiv op rd rs1 rs2)) s
   mul_turn op rd rs1 rs2 d one two =
-      or_nop_turn (MulDiv op rd rs1 rs2) (mul_row m.pc op rd rs1 rs2) rd (mul_div_by op (register m rs1) (register m rs2)) (rd == 0) refl refl refl d
-      (puts3 m s is h (mul_row m.pc op rd rs1 rs2) rd rs1 rs2 (mul_div_by op) (mul_makes op m.pc rd rs1 rs2) d one two) refl refl
+      or_nop_turn (MulDiv op rd rs1 rs2) (mul_row m.pc op rd rs1 rs2) rd (mul_div_result op (register m rs1) (register m rs2)) (rd == 0) refl refl refl d
+      (puts3 m s is h (mul_row m.pc op rd rs1 rs2) rd rs1 rs2 (mul_div_result op) (mul_makes op m.pc rd rs1 rs2) d one two) refl refl
 
   pub imm_turn : (op : AluOp) (rd rs1 imm : ℕ) → rd < 32 → rs1 < 32 → IsOperandOf op imm → Turns m (AluImm op rd rs1 imm) (row_of m.pc (AluImm op rd rs1 imm)) s
   imm_turn op rd rs1 imm d one fits =
       let same : word_of_limbs (limbs_of imm) ≡ imm = word_of_limbs-limbs_of imm (operand_word op imm fits) in
-      let puts : Puts m s (imm_row m.pc op rd rs1 imm) rd (alu_by op (register m rs1) imm) =
-      subst (λ (n : ℕ). Puts m s (imm_row m.pc op rd rs1 imm) rd (alu_by op (register m rs1) n)) same
-      (puts2 m s is h (imm_row m.pc op rd rs1 imm) rd rs1 (λ a. alu_by op a (word_of_limbs (limbs_of imm))) (imm_makes op m.pc rd rs1 imm) d one) in
-      or_nop_turn (AluImm op rd rs1 imm) (imm_row m.pc op rd rs1 imm) rd (alu_by op (register m rs1) imm) (rd == 0) refl refl refl d puts refl refl
+      let puts : Puts m s (imm_row m.pc op rd rs1 imm) rd (alu_result op (register m rs1) imm) =
+      subst (λ (n : ℕ). Puts m s (imm_row m.pc op rd rs1 imm) rd (alu_result op (register m rs1) n)) same
+      (puts2 m s is h (imm_row m.pc op rd rs1 imm) rd rs1 (λ a. alu_result op a (word_of_limbs (limbs_of imm))) (imm_makes op m.pc rd rs1 imm) d one) in
+      or_nop_turn (AluImm op rd rs1 imm) (imm_row m.pc op rd rs1 imm) rd (alu_result op (register m rs1) imm) (rd == 0) refl refl refl d puts refl refl
 
   pub lui_turn : (rd imm : ℕ) → rd < 32 → Turns m (Lui rd imm) (row_of m.pc (Lui rd imm)) s
   lui_turn rd imm d =

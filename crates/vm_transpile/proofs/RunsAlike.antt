@@ -2,7 +2,7 @@
 use Rattle.std.proofs.Common.{◌≡◌, ℕ, zero, suc, ◌+◌, ◌*◌, ◌<◌, List, ◌++◌, length, take, drop, take-add, drop-drop, take_all, refl, sym, ap, ◌∙◌, subst, arith}
 use Rattle.std.specs.List.{flat_map, range_with_len}
 use Rattle.elf_image.specs.Loaded.{Loaded}
-use Rattle.elf_image.specs.Image.{HasImage}
+use Rattle.elf_image.specs.Image.{HasImage, IsOfAFile}
 use Rattle.rv_run.specs.Machine.{Machine, start}
 use Rattle.rv_run.specs.Run.{Goes, Ends}
 use Rattle.vm_isa.specs.declared.instr.VmInstr.{VmInstr}
@@ -35,7 +35,7 @@ public_same m s is h =
 module _ (bytes hints : List ℕ) (loaded : Loaded) (are : IsBytes bytes) (hint : IsBytes hints) (image : HasImage bytes loaded) where
   forth : (n : ℕ) (m : Machine) → Goes loaded hints n m → HasText loaded m.pc → (s : VmState) × VmGoes (program_of loaded) (vm_start loaded hints) n s × IsMachine m × Same m s
   forth zero m reached text =
-      let same = starts_are_same bytes hints loaded are hint image in
+      let same = starts_are_same hints loaded hint (record { bytes = bytes; are_bytes = are; has_image = image }) in
       (vm_start loaded hints, refl, subst IsMachine (sym reached) same.0, subst (λ (x : Machine). Same x (vm_start loaded hints)) (sym reached) same.1)
   forth (suc n) m reached text =
       let before = forth n reached.0 reached.1 (went_text loaded reached.0 m reached.2) in
@@ -44,7 +44,7 @@ module _ (bytes hints : List ℕ) (loaded : Loaded) (are : IsBytes bytes) (hint 
 
   back : (n : ℕ) (s : VmState) → VmGoes (program_of loaded) (vm_start loaded hints) n s → HasRow (program_of loaded) s.pc → (m : Machine) × Goes loaded hints n m × IsMachine m × Same m s
   back zero s reached row =
-      let same = starts_are_same bytes hints loaded are hint image in
+      let same = starts_are_same hints loaded hint (record { bytes = bytes; are_bytes = are; has_image = image }) in
       (start loaded hints, refl, same.0, subst (λ (x : VmState). Same (start loaded hints) x) (sym reached) same.1)
   back (suc n) s reached row =
       let before = back n reached.0 reached.1 (reached.2.instr, reached.2.stands, reached.2.here) in
@@ -75,14 +75,14 @@ module _ (bytes hints : List ℕ) (loaded : Loaded) (are : IsBytes bytes) (hint 
       }
 
 pub runs_go_forth : RunsGoForth
-runs_go_forth bytes hints loaded are hint image = forth bytes hints loaded are hint image
+runs_go_forth hints loaded hint file = forth file.bytes hints loaded file.are_bytes hint file.has_image
 
 pub runs_go_back : RunsGoBack
-runs_go_back bytes hints loaded are hint image = back bytes hints loaded are hint image
+runs_go_back hints loaded hint file = back file.bytes hints loaded file.are_bytes hint file.has_image
 
 pub runs_end_alike : RunsEndAlike
-runs_end_alike bytes loaded are image hints n code public_bytes hint =
-    (ends_forth bytes hints loaded are hint image n code public_bytes, ends_back bytes hints loaded are hint image n code public_bytes)
+runs_end_alike loaded file hints n code public_bytes hint =
+    (ends_forth file.bytes hints loaded file.are_bytes hint file.has_image n code public_bytes, ends_back file.bytes hints loaded file.are_bytes hint file.has_image n code public_bytes)
 
 -- the program of a file's image
 
@@ -90,5 +90,5 @@ pub steps_alike : (loaded : Loaded) (program : List VmInstr) → program ≡ pro
 steps_alike loaded program same bytes image =
     subst (StepsAlike loaded) (sym same) (record { forth = goes_forth bytes loaded image; back = goes_back bytes loaded image; ends_by_row = ends_by_row bytes loaded image })
 
-pub ends_alike : (loaded : Loaded) (program : List VmInstr) → program ≡ program_of loaded → (bytes : List ℕ) → IsBytes bytes → HasImage bytes loaded → EndsAlike loaded program
-ends_alike loaded program same bytes are image = subst (EndsAlike loaded) (sym same) (runs_end_alike bytes loaded are image)
+pub ends_alike : (loaded : Loaded) (program : List VmInstr) → program ≡ program_of loaded → IsOfAFile loaded → EndsAlike loaded program
+ends_alike loaded program same file = subst (EndsAlike loaded) (sym same) (runs_end_alike loaded file)

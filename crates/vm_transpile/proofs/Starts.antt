@@ -87,4 +87,4 @@ start_same hints loaded = record {
 }
 
 pub starts_are_same : StartsAreSame
-starts_are_same bytes hints loaded h k image = (start_machine bytes hints loaded h k image, start_same hints loaded)
+starts_are_same hints loaded k file = (start_machine file.bytes hints loaded file.are_bytes k file.has_image, start_same hints loaded)

@@ -3,15 +3,16 @@ use Rattle.std.proofs.Common.{◌≡◌, ℕ, ◌+◌, ◌-◌, ◌*◌, ◌%◌
 use Rattle.std.proofs.lemmas.Bool.Decides.{nat_tests}
 use Rattle.byteorder.specs.Endian.{little_bytes}
 use Rattle.rv_decode.specs.declared.instr.Instr.TheVariants.{Store, HintStore, Reveal}
-use Rattle.rv_decode.specs.declared.instr.StoreKind.{StoreKind}
-use Rattle.rv_decode.specs.declared.instr.StoreKind.TheVariants.{Sb}
+use Rattle.vm_word.specs.declared.operation.StoreKind.{StoreKind}
+use Rattle.vm_word.specs.declared.operation.StoreKind.TheVariants.{Sb}
 use Rattle.vm_word.specs.Word.{limbs_of, word_of_limbs}
 use Rattle.vm_word.specs.Arithmetic.{word_sum}
 use Rattle.rv_run.specs.declared.outcome.Cause.{Cause}
 use Rattle.rv_run.specs.declared.outcome.Cause.TheVariants.{PublicIndex}
 use Rattle.rv_run.specs.Machine.{Machine}
 use Rattle.rv_run.specs.Memory.{with_bytes}
-use Rattle.rv_run.specs.Step.{register, goes_on, store, use_hints, make_public, at_address, at_public, store_width}
+use Rattle.rv_run.specs.Step.{register, goes_on, store, use_hints, make_public, at_address, at_public}
+use Rattle.vm_word.specs.Operations.{store_width}
 use Rattle.rv_run.proofs.HintsTaken.{hint_parts, hint_whole}
 use Rattle.vm_isa.specs.declared.instr.VmInstr.{VmInstr}
 use Rattle.vm_isa.specs.Results.{width_of, with_low}

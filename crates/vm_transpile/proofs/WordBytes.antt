@@ -3,13 +3,13 @@ use Rattle.std.proofs.Common.{◌≡◌, ℕ, zero, suc, ◌+◌, ◌-◌, ◌/�
 use Rattle.std.specs.Prelude.{nat_le, nat_lt}
 use Rattle.std.proofs.lemmas.Bool.Decides.{nat_tests}
 use Rattle.byteorder.specs.Endian.{little_bytes}
-use Rattle.rv_decode.specs.declared.instr.LoadKind.{LoadKind}
-use Rattle.rv_decode.specs.declared.instr.LoadKind.TheVariants.{Lb, Lh, Lw, Lbu, Lhu}
-use Rattle.rv_decode.specs.declared.instr.StoreKind.{StoreKind}
-use Rattle.rv_decode.specs.declared.instr.StoreKind.TheVariants.{Sb, Sh, Sw}
+use Rattle.vm_word.specs.declared.operation.LoadKind.{LoadKind}
+use Rattle.vm_word.specs.declared.operation.LoadKind.TheVariants.{Lb, Lh, Lw, Lbu, Lhu}
+use Rattle.vm_word.specs.declared.operation.StoreKind.{StoreKind}
+use Rattle.vm_word.specs.declared.operation.StoreKind.TheVariants.{Sb, Sh, Sw}
 use Rattle.vm_word.specs.Word.{limbs_of}
 use Rattle.rv_run.specs.Memory.{number_at, with_bytes}
-use Rattle.rv_run.specs.Step.{load_width, store_width}
+use Rattle.vm_word.specs.Operations.{load_width, store_width}
 use Rattle.vm_isa.specs.Results.{number_in, with_low}
 use Rattle.vm_transpile.specs.Same.{memory_block}
 

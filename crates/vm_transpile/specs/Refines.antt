@@ -1,7 +1,7 @@
 -- The machine on blocks does what the manual's machine does, and no more.
 use Rattle.std.specs.Prelude.{◌≡◌, ℕ, ◌↔◌, List, Some, Contains}
 use Rattle.elf_image.specs.Loaded.{Loaded, word_of}
-use Rattle.elf_image.specs.Image.{HasImage}
+use Rattle.elf_image.specs.Image.{HasImage, IsOfAFile}
 use Rattle.rv_run.specs.Machine.{Machine, start}
 use Rattle.rv_run.specs.Step.{goes, ends, step_of}
 use Rattle.rv_run.specs.Run.{Goes, Ends}
@@ -56,7 +56,7 @@ abbrev pub StateIsKept : Type 0
 StateIsKept = (loaded : Loaded) (m next : Machine) → IsMachine m → step_of loaded m ≡ goes next → IsMachine next
 
 abbrev pub StartsAreSame : Type 0
-StartsAreSame = (bytes hints : List ℕ) (loaded : Loaded) → IsBytes bytes → IsBytes hints → HasImage bytes loaded
+StartsAreSame = (hints : List ℕ) (loaded : Loaded) → IsBytes hints → IsOfAFile loaded
     → IsMachine (start loaded hints) × Same (start loaded hints) (vm_start loaded hints)
 
 abbrev pub StepsGoForth : Type 0
@@ -70,15 +70,15 @@ StepsEndByRows = (bytes : List ℕ) (loaded : Loaded) → HasImage bytes loaded 
 
 -- n steps lead to the same state on both, where text stands there
 abbrev pub RunsGoForth : Type 0
-RunsGoForth = (bytes hints : List ℕ) (loaded : Loaded) → IsBytes bytes → IsBytes hints → HasImage bytes loaded
+RunsGoForth = (hints : List ℕ) (loaded : Loaded) → IsBytes hints → IsOfAFile loaded
     → (n : ℕ) (m : Machine) → Goes loaded hints n m → HasText loaded m.pc
     → (s : VmState) × VmGoes (program_of loaded) (vm_start loaded hints) n s × IsMachine m × Same m s
 
 -- and where a row does
 abbrev pub RunsGoBack : Type 0
-RunsGoBack = (bytes hints : List ℕ) (loaded : Loaded) → IsBytes bytes → IsBytes hints → HasImage bytes loaded
+RunsGoBack = (hints : List ℕ) (loaded : Loaded) → IsBytes hints → IsOfAFile loaded
     → (n : ℕ) (s : VmState) → VmGoes (program_of loaded) (vm_start loaded hints) n s → HasRow (program_of loaded) s.pc
     → (m : Machine) × Goes loaded hints n m × IsMachine m × Same m s
 
 abbrev pub RunsEndAlike : Type 0
-RunsEndAlike = (bytes : List ℕ) (loaded : Loaded) → IsBytes bytes → HasImage bytes loaded → EndsAlike loaded (program_of loaded)
+RunsEndAlike = (loaded : Loaded) → IsOfAFile loaded → EndsAlike loaded (program_of loaded)

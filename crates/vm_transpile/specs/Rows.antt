@@ -1,17 +1,17 @@
 -- The program row of an instruction. A number that a row does not name is 0.
 use Rattle.std.specs.Prelude.{ℕ, ◌^◌, Bool, true, false, [], ◌∷◌, ◌==◌, not, nat_lt, if◌then◌else◌}
-use Rattle.rv_decode.specs.declared.instr.AluOp.{AluOp}
-use Rattle.rv_decode.specs.declared.instr.AluOp.TheVariants.{Add, Sub, Sll, Slt, Sltu, Xor, Srl, Sra, Or, And}
-use Rattle.rv_decode.specs.declared.instr.BranchKind.{BranchKind}
-use Rattle.rv_decode.specs.declared.instr.BranchKind.TheVariants.{Beq, Bne, Blt, Bge, Bltu, Bgeu}
+use Rattle.vm_word.specs.declared.operation.AluOp.{AluOp}
+use Rattle.vm_word.specs.declared.operation.AluOp.TheVariants.{Add, Sub, Sll, Slt, Sltu, Xor, Srl, Sra, Or, And}
+use Rattle.vm_word.specs.declared.operation.BranchKind.{BranchKind}
+use Rattle.vm_word.specs.declared.operation.BranchKind.TheVariants.{Beq, Bne, Blt, Bge, Bltu, Bgeu}
 use Rattle.rv_decode.specs.declared.instr.Instr.{Instr}
 use Rattle.rv_decode.specs.declared.instr.Instr.TheVariants.{Lui, Auipc, Jal, Jalr, Branch, Load, Store, AluImm, Alu, MulDiv, Fence, Terminate, HintStore, Reveal, ShaBlock}
-use Rattle.rv_decode.specs.declared.instr.LoadKind.{LoadKind}
-use Rattle.rv_decode.specs.declared.instr.LoadKind.TheVariants.{Lb, Lh, Lw, Lbu, Lhu}
-use Rattle.rv_decode.specs.declared.instr.MulDivOp.{MulDivOp}
-use Rattle.rv_decode.specs.declared.instr.MulDivOp.TheVariants.{Mul, Mulh, Mulhsu, Mulhu, Div, Divu, Rem, Remu}
-use Rattle.rv_decode.specs.declared.instr.StoreKind.{StoreKind}
-use Rattle.rv_decode.specs.declared.instr.StoreKind.TheVariants.{Sb, Sh, Sw}
+use Rattle.vm_word.specs.declared.operation.LoadKind.{LoadKind}
+use Rattle.vm_word.specs.declared.operation.LoadKind.TheVariants.{Lb, Lh, Lw, Lbu, Lhu}
+use Rattle.vm_word.specs.declared.operation.MulDivOp.{MulDivOp}
+use Rattle.vm_word.specs.declared.operation.MulDivOp.TheVariants.{Mul, Mulh, Mulhsu, Mulhu, Div, Divu, Rem, Remu}
+use Rattle.vm_word.specs.declared.operation.StoreKind.{StoreKind}
+use Rattle.vm_word.specs.declared.operation.StoreKind.TheVariants.{Sb, Sh, Sw}
 use Rattle.vm_isa.specs.declared.instr.VmInstr.{VmInstr}
 use Rattle.vm_isa.specs.Opcodes.{ADD, SUB, XOR, OR, AND, SLT, SLTU, SLL, SRL, SRA, LB, LH, LW, LBU, LHU, SB, SH, SW, BEQ, BNE, BLT, BLTU, BGE, BGEU, JAL, LUI, JALR, AUIPC, MUL, MULH, MULHSU, MULHU, DIV, DIVU, REM, REMU, HINT, REVEAL, NOP, SHA, TERMINATE}
 use Rattle.vm_word.specs.Arithmetic.{word_sum}

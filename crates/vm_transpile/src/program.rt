@@ -4,7 +4,7 @@ ghost use Rattle.std.specs.Prelude.{◌≡◌, ◌==◌, ◌↔◌, [], length, 
 use std::marker::Model;
 use vm_isa::VmInstr;
 
-/// The rows of a program in rising order of pc, seen as their list. The place of a row counts from 0.
+/// The rows of a program in rising order of pc, each in range, seen as their list. The place of a row counts from 0.
 #[derive(Debug, Drop)]
 pub struct Program {
     rows: Vec<VmInstr>,
@@ -20,17 +20,30 @@ impl Model for Program {
 
     ghost view = { λ program. program.rows.items };
 
-    ghost invariant = { λ program. RisesFrom 0 program.rows.items };
+    ghost use Rattle.std.specs.Prelude.{All};
+    ghost use Rattle.vm_isa.specs.Instr.{InRange};
+
+    ghost invariant = { λ program. RisesFrom 0 program.rows.items × All InRange program.rows.items };
 }
 
 impl Program {
+    ghost use Rattle.std.specs.Prelude.{All};
+    ghost use Rattle.vm_isa.specs.Instr.{InRange};
     ghost use Rattle.vm_transpile.specs.Order.{RisesFrom};
 
     pub(crate) fn new(rows: Vec<VmInstr>) -> Program
-        requires { RisesFrom 0 rows.items }
+        requires rises { RisesFrom 0 rows.items }
+        requires in_range { All InRange rows.items }
         ensures { result ≡ rows.items }
     {
         Program { rows }
+    }
+
+    /// Law: each row is in range.
+    pub fn rows_are_in_range(&self)
+        ensures { All InRange self.now }
+    {
+        let _ = &self.rows;
     }
 
     /// How many rows there are: fewer than text words, where some are no instructions.

@@ -1,9 +1,7 @@
 // From text words to program rows.
-ghost use Rattle.std.specs.Prelude.{◌≡◌, ℕ, IfOk, List, slice_get};
+ghost use Rattle.std.specs.Prelude.{◌≡◌, IfOk, slice_get};
 ghost use Rattle.std.specs.Option.{option_and_then};
 ghost use Rattle.elf_image.specs.Loaded.{text_of};
-ghost use Rattle.elf_image.specs.Image.{HasImage};
-ghost use Rattle.vm_isa.specs.Words.{IsBytes};
 ghost use Rattle.vm_transpile.specs.Program.{row_at, program_of};
 ghost use Rattle.vm_transpile.specs.Refines.{StepsAlike, EndsAlike};
 
@@ -14,13 +12,14 @@ use rv_decode::decode;
 use std::alloc::Global;
 use vm_isa::VmInstr;
 
-/// The program of an image. A text word that is no instruction has no row. Where the image is a file's, the program
-/// does on the machine of blocks what the text does on the manual's machine.
+/// The program of an image. A text word that is no instruction has no row. The program does on the machine of blocks
+/// what the text does on the manual's machine.
 pub fn transpile(alloc: Global, image: &Image) -> Result<Program, OutOfMemory>
     ensures rows { IfOk result (λ program. program ≡ program_of image.now) }
-    ensures steps { IfOk result (λ program. (bytes : List ℕ) → HasImage bytes image.now → StepsAlike image.now program) }
-    ensures runs { IfOk result (λ program. (bytes : List ℕ) → IsBytes bytes → HasImage bytes image.now → EndsAlike image.now program) }
+    ensures steps { IfOk result (StepsAlike image.now) }
+    ensures runs { IfOk result (EndsAlike image.now) }
 {
+    image.is_of_a_file();
     let mut rows = Vec::new(alloc);
     for place in 0..image.text_len() {
         if let Some(row) = row_at_place(image, place) {

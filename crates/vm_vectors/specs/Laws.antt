@@ -1,7 +1,7 @@
 -- Two listed lines, at which the premises of a made word's `decoded` are met. Each law is the contract of a
 -- function in src/laws.rt.
 use Rattle.std.specs.Prelude.{ℕ, ◌≡◌, ◌<◌, Some}
-use Rattle.rv_decode.specs.declared.instr.AluOp.TheVariants.{Add}
+use Rattle.vm_word.specs.declared.operation.AluOp.TheVariants.{Add}
 use Rattle.rv_decode.specs.declared.instr.Instr.TheVariants.{AluImm, Terminate}
 use Rattle.rv_decode.specs.Bits.{rd_of, rs1_of, i_immediate}
 use Rattle.rv_decode.specs.Listing.{decode_of}

@@ -10,7 +10,7 @@ use Rattle.std.specs.Int.{bit_at, cast_signed, from_bool, rotate_right}
 use Rattle.std.specs.Int.Bits.{or_self}
 use Rattle.vm_word.proofs.DigitLemmas.{number_of_digits-digit, number_of_digits-same}
 use Rattle.vm_word.specs.Digits.{number_of_digits}
-use Rattle.vm_word.specs.Word.{bits_of, half, limb, limbs_of, rotated_right, signed_value, word_of_bits, word_of_limbs}
+use Rattle.vm_word.specs.Word.{bits_of, half, limb, limbs_of, signed_value, word_of_bits, word_of_limbs}
 
 -- ---- limbs and halves
 
@@ -65,6 +65,10 @@ word_of_bits-bits_of word fits =
     ∙ number_of_digits-bit_at word fits
 
 -- ---- rotations
+
+-- the lowest `by` bits go above the others, for `by` up to 32
+abbrev pub rotated_right : ℕ → ℕ → ℕ
+rotated_right word by = word / 2 ^ by + word % 2 ^ by * 2 ^ (32 - by)
 
 high_lt : (word by : ℕ) → word < 2 ^ 32 → by ≤ 32 → word / 2 ^ by < 2 ^ (32 - by)
 high_lt word by fits le =
@@ -122,3 +126,7 @@ bit_at-rotated_right word by i fits lt within =
           let place : (i + by) % 32 ≡ i - j = omega arith in
           bit_at_cat_high high j low i low_fits over ∙ rw place (bit_at-mod word by (i - j) (omega arith))
     ]
+
+pub bit_at-rotate_right : (word by i : ℕ) → word < 2 ^ 32 → by < 32 → i < 32
+    → bit_at (rotate_right w32 word by) i ≡ bit_at word ((i + by) % 32)
+bit_at-rotate_right word by i fits lt within = ap (λ (x : ℕ). bit_at x i) (rotate_right-is word by fits lt) ∙ bit_at-rotated_right word by i fits lt within

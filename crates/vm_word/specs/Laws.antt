@@ -1,8 +1,8 @@
 -- What the definitions of a word's parts say of each other. Each law is the contract of a function
 -- in src/laws.rt.
 use Rattle.std.specs.Prelude.{◌≡◌, ℕ, ◌+◌, ◌*◌, ◌%◌, ◌^◌, ◌<◌, List, length, slice_index}
-use Rattle.std.specs.Int.{bit_at}
-use Rattle.vm_word.specs.Word.{bits_of, half, limbs_of, rotated_right, signed_value, word_of_bits, word_of_limbs}
+use Rattle.std.specs.Int.{bit_at, rotate_right, w32}
+use Rattle.vm_word.specs.Word.{bits_of, half, limbs_of, signed_value, word_of_bits, word_of_limbs}
 
 -- the limbs of a word make that word
 abbrev pub LimbsMakeTheWord : Type 0
@@ -28,4 +28,4 @@ SignedValueDeterminesWord = (a b : ℕ) → a < 2 ^ 32 → b < 2 ^ 32 → signed
 -- bit i of a word turned right is the bit `by` places above it, modulo 32
 abbrev pub RotationMovesBits : Type 0
 RotationMovesBits = (word by i : ℕ) → word < 2 ^ 32 → by < 32 → i < 32
-    → bit_at (rotated_right word by) i ≡ bit_at word ((i + by) % 32)
+    → bit_at (rotate_right w32 word by) i ≡ bit_at word ((i + by) % 32)

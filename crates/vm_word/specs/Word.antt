@@ -27,10 +27,6 @@ halves_of word = half word 0 ∷ half word 1 ∷ []
 abbrev pub signed_value : ℕ → ℤ
 signed_value word = if nat_lt word (2 ^ 31) then pos word else (pos word -ℤ pos (2 ^ 32))
 
--- the lowest `by` bits go above the others, for `by` up to 32
-abbrev pub rotated_right : ℕ → ℕ → ℕ
-rotated_right word by = word / 2 ^ by + word % 2 ^ by * 2 ^ (32 - by)
-
 -- the 32 bits of a word: bit i is word / 2 ^ i % 2
 unfoldable pub bits_of : ℕ → List Bool
 bits_of word = map (λ i. bit_at word i == 1) (range_with_len 0 32)

@@ -3,10 +3,12 @@
 #![tactic(auto)]
 
 ghost use Rattle.std.specs.Prelude.{◌≡◌, ◌<◌};
-ghost use Rattle.vm_word.specs.Word.{bits_of, halves_of, limbs_of, rotated_right, signed_value, word_of_limbs};
+ghost use Rattle.std.specs.Int.{rotate_right, w32};
+ghost use Rattle.vm_word.specs.Word.{bits_of, halves_of, limbs_of, signed_value, word_of_limbs};
 
 pub mod arithmetic;
 pub mod laws;
+pub mod operation;
 
 /// The bytes of a word, limb 0 the lowest.
 pub fn limbs(word: u32) -> [u8; 4]
@@ -39,7 +41,7 @@ pub fn signed(word: u32) -> i32
 /// A word turned right: bit `i` goes to place `i - by`, and the lowest `by` bits to the top.
 pub fn rotate_right(word: u32, by: u32) -> u32
     requires { by < 32 }
-    ensures { result ≡ rotated_right word by }
+    ensures { result ≡ rotate_right w32 word by }
 {
     word.rotate_right(by)
 }

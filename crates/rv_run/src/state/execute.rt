@@ -2,7 +2,7 @@
 ghost use Rattle.std.specs.Prelude.{◌≡◌, ◌<◌, ◌≤◌, ◌+◌, ◌%◌, ◌^◌, IfOk, OnOk, OnErr};
 ghost use Rattle.rv_decode.specs.Ranges.{HasFieldsInRange};
 ghost use Rattle.rv_decode.specs.declared.instr.Instr.TheVariants.{Jal, Jalr, Branch, Reveal};
-ghost use Rattle.rv_run.specs.Step.{alu as alu_of, goes_on, jumps, make_public, put as put_word};
+ghost use Rattle.rv_run.specs.Step.{goes_on, jumps, make_public, put as put_word};
 ghost use Rattle.vm_word.specs.Arithmetic.{word_sum};
 ghost use Rattle.rv_run.specs.State.{machine_of, program_of, IsStepBy};
 
@@ -10,8 +10,8 @@ use super::State;
 use crate::OutOfMemory;
 use crate::obstacles::{at_public, at_target};
 use crate::outcome::Stepped;
-use crate::results::{alu, is_taken, mul_div};
-use rv_decode::{AluOp, BranchKind, Instr};
+use rv_decode::{BranchKind, Instr};
+use vm_word::operation::jump_target;
 
 impl<'a> State<'a> {
     /// Does what an instruction does, or traps.
@@ -39,12 +39,14 @@ impl<'a> State<'a> {
                 rs2,
                 imm,
             } => self.store_register(kind, rs1, rs2, imm),
-            Instr::AluImm { op, rd, rs1, imm } => Ok(self.alu(op, rd, self.register(rs1), imm)),
+            Instr::AluImm { op, rd, rs1, imm } => {
+                Ok(self.put_and_go_on(rd, op.result(self.register(rs1), imm)))
+            }
             Instr::Alu { op, rd, rs1, rs2 } => {
-                Ok(self.alu(op, rd, self.register(rs1), self.register(rs2)))
+                Ok(self.put_and_go_on(rd, op.result(self.register(rs1), self.register(rs2))))
             }
             Instr::MulDiv { op, rd, rs1, rs2 } => {
-                Ok(self.put_and_go_on(rd, mul_div(op, self.register(rs1), self.register(rs2))))
+                Ok(self.put_and_go_on(rd, op.result(self.register(rs1), self.register(rs2))))
             }
             Instr::Fence => Ok(self.go_on()),
             Instr::Terminate { code } => Ok(Stepped::Ended(code)),
@@ -64,15 +66,6 @@ impl<'a> State<'a> {
     {
         self.put(rd, word);
         self.go_on()
-    }
-
-    fn alu(&mut self, op: AluOp, rd: u8, first: u32, second: u32) -> Stepped
-        requires { rd < 32 }
-        ensures went { result ≡ Stepped.Went }
-        ensures machine { machine_of self.new ≡ goes_on (put_word rd (alu_of op first second) (machine_of self.old)) }
-        ensures program { program_of self.new ≡ program_of self.old }
-    {
-        self.put_and_go_on(rd, alu(op, first, second))
     }
 
     fn link_and_jump(&mut self, rd: u8, target: u32) -> Stepped
@@ -103,8 +96,7 @@ impl<'a> State<'a> {
         ensures step { IsStepBy (Jalr rd rs1 imm) (machine_of self.old) (machine_of self.new) result }
         ensures program { program_of self.new ≡ program_of self.old }
     {
-        let sum = self.register(rs1).wrapping_add(imm);
-        let target = sum - sum % 2;
+        let target = jump_target(self.register(rs1), imm);
         match at_target(target) {
             Some(cause) => self.trap(cause),
             None => self.link_and_jump(rd, target),
@@ -117,7 +109,7 @@ impl<'a> State<'a> {
         ensures step { IsStepBy (Branch kind rs1 rs2 offset) (machine_of self.old) (machine_of self.new) result }
         ensures program { program_of self.new ≡ program_of self.old }
     {
-        if !is_taken(kind, self.register(rs1), self.register(rs2)) {
+        if !kind.holds(self.register(rs1), self.register(rs2)) {
             return self.go_on();
         }
         let target = self.pc.wrapping_add(offset);

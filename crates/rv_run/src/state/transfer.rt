@@ -2,7 +2,7 @@
 ghost use Rattle.std.specs.Prelude.{◌≡◌, ◌<◌, ◌%◌, IfOk, OnErr};
 ghost use Rattle.rv_decode.specs.declared.instr.Instr.TheVariants.{Load, Store, HintStore, ShaBlock};
 ghost use Rattle.rv_run.specs.Memory.{number_at};
-ghost use Rattle.rv_run.specs.Step.{extended, load_width as load_width_of, store_width as store_width_of};
+ghost use Rattle.vm_word.specs.Operations.{load_extended, load_width};
 ghost use Rattle.rv_run.specs.State.{machine_of, program_of, IsStepBy};
 
 use super::State;
@@ -11,7 +11,6 @@ use crate::obstacles::{at_address, at_block};
 use crate::outcome::{Cause, Stepped};
 use rv_decode::{LoadKind, StoreKind};
 use sha_words::compress;
-use vm_word::arithmetic::sign_extend;
 
 impl<'a> State<'a> {
     pub fn load_register(&mut self, kind: LoadKind, rd: u8, rs1: u8, imm: u32) -> Stepped
@@ -21,7 +20,7 @@ impl<'a> State<'a> {
         ensures program { program_of self.new ≡ program_of self.old }
     {
         let address = self.register(rs1).wrapping_add(imm);
-        match at_address(load_width(kind), address) {
+        match at_address(kind.width(), address) {
             Some(cause) => self.trap(cause),
             None => {
                 let word = self.loaded(kind, address);
@@ -32,16 +31,15 @@ impl<'a> State<'a> {
 
     // The word that a load puts into its register.
     fn loaded(&self, kind: LoadKind, address: u32) -> u32
-        requires { address % load_width_of kind ≡ 0 }
-        ensures { result ≡ extended kind (number_at (machine_of self.now).memory address (load_width_of kind)) }
+        requires { address % load_width kind ≡ 0 }
+        ensures { result ≡ load_extended kind (number_at (machine_of self.now).memory address (load_width kind)) }
     {
-        match kind {
-            LoadKind::Lb => sign_extend(8, u32::from(self.memory.byte(address))),
-            LoadKind::Lh => sign_extend(16, u32::from(self.memory.half(address))),
+        let number = match kind {
+            LoadKind::Lb | LoadKind::Lbu => u32::from(self.memory.byte(address)),
+            LoadKind::Lh | LoadKind::Lhu => u32::from(self.memory.half(address)),
             LoadKind::Lw => self.memory.word(address),
-            LoadKind::Lbu => u32::from(self.memory.byte(address)),
-            LoadKind::Lhu => u32::from(self.memory.half(address)),
-        }
+        };
+        kind.extend(number)
     }
 
     pub fn store_register(
@@ -58,7 +56,7 @@ impl<'a> State<'a> {
         ensures program { program_of self.new ≡ program_of self.old }
     {
         let address = self.register(rs1).wrapping_add(imm);
-        if let Some(cause) = at_address(store_width(kind), address) {
+        if let Some(cause) = at_address(kind.width(), address) {
             return Ok(self.trap(cause));
         }
         let word = self.register(rs2);
@@ -99,27 +97,5 @@ impl<'a> State<'a> {
         let words = compress(self.memory.words(state), &self.memory.block(block));
         self.memory.store_words(state, &words)?;
         Ok(self.go_on())
-    }
-}
-
-fn load_width(kind: LoadKind) -> u32
-    ensures width { result ≡ load_width_of kind }
-    ensures some { 0 < result }
-{
-    match kind {
-        LoadKind::Lb | LoadKind::Lbu => 1,
-        LoadKind::Lh | LoadKind::Lhu => 2,
-        LoadKind::Lw => 4,
-    }
-}
-
-fn store_width(kind: StoreKind) -> u32
-    ensures width { result ≡ store_width_of kind }
-    ensures some { 0 < result }
-{
-    match kind {
-        StoreKind::Sb => 1,
-        StoreKind::Sh => 2,
-        StoreKind::Sw => 4,
     }
 }

@@ -12,7 +12,7 @@ returns-in-Ok g c =
     let v = value_of c.in-Ok.file in
     let len = c.len.ensures ∙ ap length c.in_ok-program.ensures.rows in
     let file = rw len at c.in-Ok.ensures.good in
-    let runs = accepted_is_run sheet (g.met.C.Chip.fits chip) (g.met.C.Chip.buses chip) (g.met.C.Chip.sound chip) loaded v c.requires.table file in
+    let runs = accepted_is_run sheet (g.met.C.Chip.fits chip) (g.met.C.Chip.buses chip) (g.met.C.Chip.sound chip) loaded v c.is_of_a_file.ensures c.requires.table file in
     record {
       took = c.in-Ok.ensures.took;
       judged = rw c.judge.ensures

@@ -1,5 +1,5 @@
 use Rattle.std.proofs.Common.{[], refl, lit<}
-use Rattle.rv_decode.specs.declared.instr.AluOp.TheVariants.{Add}
+use Rattle.vm_word.specs.declared.operation.AluOp.TheVariants.{Add}
 use Rattle.rv_decode.specs.declared.instr.Instr.TheVariants.{AluImm}
 use Rattle.rv_decode.specs.Listing.{listing}
 use Rattle.vm_vectors.proofs.laws.addi_word_decodes.Goals as goal

@@ -1,5 +1,5 @@
-use Rattle.vm_word.proofs.WordLemmas.{bit_at-rotated_right}
+use Rattle.vm_word.proofs.WordLemmas.{bit_at-rotate_right}
 use Rattle.vm_word.proofs.laws.rotation_moves_bits.Goals as goal
 
 pub returns : goal.returns
-returns c = bit_at-rotated_right
+returns c = bit_at-rotate_right

@@ -1,6 +1,13 @@
-use Rattle.std.proofs.Common.{◌≡◌, ℕ, ◌<◌, ◌+◌, ◌*◌, get_or}
-use Rattle.elf_image.specs.Loaded.{byte_of}
+use Rattle.std.proofs.Common.{◌≡◌, ℕ, ◌<◌, ◌≤◌, ◌+◌, ◌*◌, drop, get_or, length}
+use Rattle.elf_image.specs.Loaded.{byte_in}
 use Rattle.rv_run.proofs.memory.Memory.copied_page.Given as goal
 
-abbrev pub invariant-loop-i : goal.invariant-loop-i
-invariant-loop-i l = (k : ℕ) → k < l.i → get_or l.byte-items k 0 ≡ byte_of l.self.image.now (4096 * l.number + k)
+-- the bytes of the loads from this place on are copied
+abbrev pub invariant-loop-left : goal.invariant-loop-left
+invariant-loop-left l = record {
+  within : l.left ≤ length l.self.code.image.now.loads;
+  copied : (k : ℕ) → k < 4096 → get_or l.bytes k 0 ≡ byte_in (drop l.left l.self.code.image.now.loads) (4096 * l.number + k);
+}
+
+abbrev pub decreases-loop-left : goal.decreases-loop-left
+decreases-loop-left l = l.left

@@ -8,5 +8,5 @@ invariant-loop-i l = record {
   rest : with_words (memory_of l.self) (l.address + 4 * l.i) (drop l.i l.words) ≡ with_words (memory_of l.fn.self) l.address l.words;
   first : IsOwned l.self l.address;
   last : IsOwned l.self (l.address + 28);
-  image : l.self.image ≡ l.fn.self.image;
+  code : l.self.code ≡ l.fn.self.code;
 }
