@@ -23,9 +23,10 @@ use Rattle.gadget_time.specs.Laws.{SaysRecord}
 use Rattle.gadget_time.proofs.Filled.{told_record, gap_below}
 use Rattle.adapter_regs.specs.declared.regs.Regs.{Regs}
 use Rattle.adapter_regs.specs.Regs.{regs_told, regs_touches, first_touch, second_touch, third_touch, regs_numbers, immediate_constraints, last_access, right_filled, second_filled, new_filled, regs_filled, regs_cells, time_cells, gap_cells}
-use Rattle.adapter_regs.specs.Laws.{is_register, result, RegsFilled, OthersFilled}
-use Rattle.adapter_regs.proofs.Opcodes.{three_slots, named}
-use Rattle.adapter_regs.proofs.Meaning.{writes, result_word, WordShape, ImmShape, word_shape, imm_shape}
+use Rattle.adapter_regs.specs.Laws.{RegsFilled, OthersFilled}
+use Rattle.vm_isa.specs.Opcodes.{is_register}
+use Rattle.vm_isa.specs.Results.{result}
+use Rattle.vm_isa.proofs.RegisterForm.{register_slots, named, writes, result_word, WordShape, ImmShape, word_shape, imm_shape}
 
 -- The columns, form by form.
 
@@ -250,7 +251,7 @@ columns_of_imm hi done top ends f s =
 
 columns : (hi : ℕ) (done : StepRecord) → hi ≤ 13 → Fillable (16 + hi) done → is_register done.instr.op ≡ true → Columns hi done (regs_filled done) (new_filled done)
 columns hi done top f register =
-    let ends : done.time + 3 ≤ 2 ^ (16 + hi) = omega (arith, f.ends, three_slots done.instr.op register) in
+    let ends : done.time + 3 ≤ 2 ^ (16 + hi) = omega (arith, f.ends, register_slots done.instr.op register) in
     ⊎_elim
     (λ (word : done.instr.use_imm ≡ true).
     let s = imm_shape done.instr done.time done.next done.accesses f.given f.meaning register word f.means f.next f.accesses in
@@ -288,7 +289,7 @@ regs_say_record hi done others top f register good =
       pc = at.0;
       time = at.1;
       next = goes_on (regs_filled done).pc done.instr.pc done.next at.0 f.in_range.low c.next;
-      slots = sym (three_slots done.instr.op register);
+      slots = sym (register_slots done.instr.op register);
       ends = f.ends;
       in_range = f.in_range;
       numbers = is_instruction done f.in_range register;

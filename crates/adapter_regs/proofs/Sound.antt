@@ -25,9 +25,9 @@ use Rattle.gadget_time.specs.Laws.{CountsSmall, OffMachine}
 use Rattle.gadget_time.proofs.ToldLaws.{told_silent, told_step, good_program, told_no_hint, told_uses}
 use Rattle.adapter_regs.specs.declared.regs.Regs.{Regs}
 use Rattle.adapter_regs.specs.Regs.{regs_told, regs_touches, first_touch, second_touch, third_touch, regs_numbers, immediate_constraints}
-use Rattle.adapter_regs.specs.Laws.{is_register, regs_lines, RegsResult, RegsHolds}
-use Rattle.adapter_regs.proofs.Opcodes.{apart}
-use Rattle.adapter_regs.proofs.Meaning.{result_word, means_word, means_imm}
+use Rattle.adapter_regs.specs.Laws.{regs_lines, RegsResult, RegsHolds}
+use Rattle.vm_isa.specs.Opcodes.{is_register}
+use Rattle.vm_isa.proofs.RegisterForm.{apart, result_word, means_word, means_imm}
 
 -- the program tuple read as an instruction
 record IsInstr (r : Regs) (op : ℕ) (i : VmInstr) : Type 0 where

@@ -1,13 +1,13 @@
 -- What a row of the register form says, stated once for each table of the form. A table owes it what its
 -- new word is; the rest is the form's.
-use Rattle.std.specs.Prelude.{◌≡◌, ◌≢◌, ℕ, ◌+◌, ◌<◌, ◌≤◌, Bool, true, ◌||◌, if◌then◌else◌, List, []}
+use Rattle.std.specs.Prelude.{◌≡◌, ◌≢◌, ℕ, ◌+◌, ◌<◌, ◌≤◌, Bool, true, List, []}
 use Rattle.std.specs.List.{AllByRecursion}
 use Rattle.vm_field.specs.Field.{modulus}
 use Rattle.vm_word.specs.Word.{word_of_limbs, limbs_of}
 use Rattle.vm_isa.specs.declared.record.StepRecord.{StepRecord}
 use Rattle.vm_isa.specs.Words.{IsBytes}
-use Rattle.vm_isa.specs.Opcodes.{is_alu, is_mul}
-use Rattle.vm_isa.specs.Results.{alu, mul_div}
+use Rattle.vm_isa.specs.Opcodes.{is_register, is_mul}
+use Rattle.vm_isa.specs.Results.{result}
 use Rattle.vm_isa.specs.Means.{Fillable}
 use Rattle.air_core.specs.declared.event.Event.{Event}
 use Rattle.air_core.specs.Sheet.{Sheet, OwnsSome, AllZero, AllBelow, counted}
@@ -21,14 +21,6 @@ use Rattle.gadget_time.specs.Told.{told_lines}
 use Rattle.gadget_time.specs.Laws.{OffMachine, SaysRecord}
 use Rattle.adapter_regs.specs.declared.regs.Regs.{Regs}
 use Rattle.adapter_regs.specs.Regs.{regs3_at, regs_told, immediate_constraints, time_constraints, regs_filled, new_filled, regs_cells, regs3_cells, time_cells, no_limbs}
-
--- the opcodes of the form
-abbrev pub is_register : ℕ → Bool
-is_register op = is_alu op || is_mul op
-
--- the word that an opcode of the form makes of two
-unfoldable pub result : ℕ → ℕ → ℕ → ℕ
-result op a b = if is_alu op then alu op a b else mul_div op a b
 
 -- all that a row of the form says
 abbrev pub regs_lines : ℕ → Regs → ℕ → ℕ → Limbs → List Event → List Event

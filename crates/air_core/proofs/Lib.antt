@@ -11,3 +11,4 @@ pub mod ElementLemmas
 pub mod Counting
 pub mod Totals
 pub mod Ordering
+pub mod Handing

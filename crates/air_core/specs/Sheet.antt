@@ -4,6 +4,7 @@ use Rattle.std.specs.List.{AllByRecursion}
 use Rattle.vm_field.specs.Field.{modulus}
 use Rattle.vm_isa.specs.declared.record.StepRecord.{StepRecord}
 use Rattle.air_core.specs.declared.event.Event.{Event}
+use Rattle.air_core.specs.declared.event.Side.{Side}
 use Rattle.air_core.specs.declared.event.Side.TheVariants.{Send, Receive}
 
 pub record Sheet : Type 0 where
@@ -34,11 +35,14 @@ pub record Sheet : Type 0 where
 abbrev pub OwnsSome : Sheet → Type 0
 OwnsSome sheet = (op : ℕ) × (sheet.owns op ≡ true)
 
+abbrev pub event : ℕ → Side → ℕ → List ℕ → Event
+event bus side count tuple = record { bus = bus; side = side; tuple = tuple; count = count }
+
 abbrev pub sent : ℕ → ℕ → List ℕ → Event
-sent bus count tuple = record { bus = bus; side = Send; tuple = tuple; count = count }
+sent bus count tuple = event bus Send count tuple
 
 abbrev pub received : ℕ → ℕ → List ℕ → Event
-received bus count tuple = record { bus = bus; side = Receive; tuple = tuple; count = count }
+received bus count tuple = event bus Receive count tuple
 
 -- the event, unless its count is 0
 abbrev pub if_counted : Event → List Event

@@ -2,9 +2,11 @@
 #![tactic(auto)]
 
 mod both;
+pub mod bus;
 mod chip;
 mod count;
 mod elements;
+mod emission;
 mod event;
 mod extension;
 mod flags;
@@ -28,6 +30,7 @@ pub use both::Both;
 pub use chip::Chip;
 pub use count::{CountEntry, CountList};
 pub use elements::element;
+pub use emission::{emit, emit_path, emit_received, emit_sent};
 pub use event::{Event, Side};
 pub use extension::Extension;
 pub use flags::{flag_sum, flags_broken, opcode};

@@ -1,7 +1,8 @@
 //! A list of at most fifty numbers that needs no memory.
 
-ghost use Rattle.std.specs.Prelude.{◌≡◌, ◌<◌, ◌≤◌, ◌↔◌, ◌==◌, [], IsTrue, length, slice_get};
+ghost use Rattle.std.specs.Prelude.{◌≡◌, ◌<◌, ◌≤◌, ◌↔◌, ◌==◌, [], IsTrue, length, slice_get, take};
 ghost use Rattle.std.proofs.Common.{rules};
+ghost use Rattle.air_core.specs.Padded.{padded};
 ghost use Rattle.std.specs.Cmp.{partial_order_from_own_ties};
 ghost use Rattle.std.specs.Cmp.Rules.{comparing, hashing};
 ghost use Rattle.std.specs.Hash as fed;
@@ -32,9 +33,9 @@ impl Model for Tuple {
 
     ghost view = { λ t. take t.len t.numbers };
 
-    ghost invariant = { λ t. (t.len ≤ 50) × (t.numbers ≡ padded (take t.len t.numbers)) };
+    ghost invariant = { λ t. (t.len ≤ 50) × (t.numbers ≡ padded 50 (take t.len t.numbers)) };
 
-    ghost inverse = { λ list. record { numbers = padded list; len = length list } };
+    ghost inverse = { λ list. record { numbers = padded 50 list; len = length list } };
 
     ghost use Rattle.air_core.specs.TupleFields.{fields_given_back};
 
@@ -90,6 +91,14 @@ impl Tuple {
         } else {
             None
         }
+    }
+
+    /// The first eight numbers, and zeros where the tuple has none.
+    pub fn front(&self) -> [u32; 8]
+        ensures { result ≡ take 8 (padded 50 self.now) }
+    {
+        let n = &self.numbers;
+        [n[0], n[1], n[2], n[3], n[4], n[5], n[6], n[7]]
     }
 
     pub fn as_slice(&self) -> &[u32]

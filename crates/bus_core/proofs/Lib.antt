@@ -1,2 +1,4 @@
+pub mod Shorts
 pub mod Adding
 pub mod Leasts
+pub mod LeastOf

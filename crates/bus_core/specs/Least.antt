@@ -1,5 +1,5 @@
 -- The first place, of a bus and a tuple, at which events don't balance.
-use Rattle.std.specs.Prelude.{◌≡◌, ◌≢◌, ℕ, List, Option, Some, None, if◌then◌else◌}
+use Rattle.std.specs.Prelude.{◌≡◌, ◌≢◌, ℕ, Bool, true, false, nat_eq, List, [], ◌∷◌, Option, Some, None, if◌then◌else◌}
 use Rattle.std.specs.Ordering.{nat_cmp, ordering_then, is_lt}
 use Rattle.std.specs.declared.cmp.Ordering.{Ordering}
 use Rattle.std.specs.declared.cmp.Ordering.TheVariants.{Less}
@@ -31,3 +31,29 @@ pub record IsLeastUnbalanced (events : List Event) (found : Unbalanced) : Type 0
 abbrev pub lesser_of : Option Unbalanced → Unbalanced → Unbalanced
 lesser_of None b = b
 lesser_of (Some a) b = if is_lt (place_cmp b.bus b.tuple a.bus a.tuple) then b else a
+
+-- ---- the same as a function of the events
+
+abbrev pub unbalanced_at : ℕ → List ℕ → ℕ → ℕ → Unbalanced
+unbalanced_at bus tuple sent received = record { bus = bus; tuple = tuple; sent = sent; received = received }
+
+abbrev pub uneven_by : Bool → ℕ → List ℕ → ℕ → ℕ → Option Unbalanced
+uneven_by true bus tuple sent received = None
+uneven_by false bus tuple sent received = Some (unbalanced_at bus tuple sent received)
+
+-- the place, where its sums differ
+abbrev pub uneven_at : List Event → ℕ → List ℕ → Option Unbalanced
+uneven_at events bus tuple = uneven_by (nat_eq (total Send bus tuple events) (total Receive bus tuple events)) bus tuple (total Send bus tuple events) (total Receive bus tuple events)
+
+abbrev pub lesser_found : Option Unbalanced → Option Unbalanced → Option Unbalanced
+lesser_found old None = old
+lesser_found old (Some b) = Some (lesser_of old b)
+
+-- the least of the places that some events name
+abbrev pub least_among : List Event → List Event → Option Unbalanced
+least_among events [] = None
+least_among events (e ∷ es) = lesser_found (least_among events es) (uneven_at events e.bus e.tuple)
+
+-- the first bus and tuple whose sums differ
+unfoldable pub least_uneven : List Event → Option Unbalanced
+least_uneven events = least_among events events

@@ -11,12 +11,10 @@ use Rattle.vm_isa.specs.Words.{IsWord}
 use Rattle.vm_isa.specs.Opcodes.{is_from, is_alu, is_mul}
 use Rattle.vm_isa.specs.Slots.{slots_of}
 use Rattle.vm_isa.specs.Instr.{InRange}
-use Rattle.vm_isa.specs.Results.{alu}
+use Rattle.vm_isa.specs.Results.{alu, result}
 use Rattle.vm_isa.specs.Means.{Fillable, Placed, placed_at}
 use Rattle.gadget_limbs.proofs.LimbsLaws.{limbs_word}
-use Rattle.adapter_regs.specs.Laws.{result}
-use Rattle.adapter_regs.proofs.Opcodes.{apart, three_slots}
-use Rattle.adapter_regs.proofs.Meaning.{by_word, by_imm, means_word, means_imm, reads, writes, result_word}
+use Rattle.vm_isa.proofs.RegisterForm.{apart, register_slots, by_word, by_imm, means_word, means_imm, reads, writes, result_word}
 use Rattle.chip_alu.specs.AluSound.{owned_register}
 
 -- the instruction that reads x6
@@ -92,7 +90,7 @@ new_word op b c own p q =
     rw (one, word_of_limbs-limbs_of b p, word_of_limbs-limbs_of c q) refl
 
 ends : (op time : ℕ) → is_from 1 5 op ≡ true → time ≤ 70000 → time + slots_of op ≤ 2 ^ 24
-ends op time own low = omega (arith, three_slots op (owned_register op own))
+ends op time own low = omega (arith, register_slots op (owned_register op own))
 
 -- the accesses at their times
 abbrev at_time : ℕ → ℕ → List ℕ → List ℕ → Placed

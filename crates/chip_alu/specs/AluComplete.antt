@@ -16,7 +16,8 @@ use Rattle.vm_field.specs.Limbs.{list_of, limbs_at}
 use Rattle.gadget_limbs.proofs.LimbsLaws.{bytes_below}
 use Rattle.gadget_time.specs.Laws.{SaysRecord}
 use Rattle.adapter_regs.specs.Regs.{regs_at, gap_at, regs_told, regs_filled, new_filled, regs_cells, time_cells, immediate_constraints}
-use Rattle.adapter_regs.specs.Laws.{is_register, RegsFilled}
+use Rattle.vm_isa.specs.Opcodes.{is_register}
+use Rattle.adapter_regs.specs.Laws.{RegsFilled}
 use Rattle.adapter_regs.proofs.Filled.{regs_filled_holds, regs_say_record}
 use Rattle.chip_alu.specs.declared.columns.AluRow.{AluRow}
 use Rattle.chip_alu.specs.Alu.{alu_sheet, alu_row, row_of_alu, alu_flags, alu_valid, alu_operation, lookup_lines, mixed_lines, alu_told, alu_lines, alu_constraints, alu_filled}

@@ -15,7 +15,7 @@ use Rattle.gadget_limbs.specs.Sum.{sum_constraints, carry_out, gated_bit}
 use Rattle.gadget_time.specs.Told.{time_constraint, touch_constraint, touch_lines}
 use Rattle.gadget_time.proofs.ToldLaws.{may_look}
 use Rattle.adapter_regs.specs.Regs.{regs_at, gap_at, immediate_constraints, first_touch, second_touch, third_touch}
-use Rattle.adapter_regs.proofs.Opcodes.{three_slots}
+use Rattle.vm_isa.proofs.RegisterForm.{register_slots}
 use Rattle.adapter_regs.proofs.Sound.{regs_uses}
 use Rattle.chip_alu.specs.declared.columns.AluRow.{AluRow}
 use Rattle.chip_alu.specs.Alu.{alu_sheet, alu_row, alu_flags, alu_valid, alu_op, alu_lines, alu_constraints, lookup_lines, mixed_lines}
@@ -24,7 +24,7 @@ use Rattle.chip_alu.specs.AluSound.{owned_register, silent}
 -- Law Fits
 
 owned : (hi op : ℕ) → is_from 1 5 op ≡ true → Owned (alu_sheet hi) op
-owned hi op h = record { slots = three_slots op (owned_register op h); some = lit≤ tt; few = lit≤ tt; takes = h; row = refl }
+owned hi op h = record { slots = register_slots op (owned_register op h); some = lit≤ tt; few = lit≤ tt; takes = h; row = refl }
 
 pub alu_fits : (hi : ℕ) → 8 ≤ hi → hi ≤ 13 → Fits (alu_sheet hi)
 alu_fits hi low high = record {

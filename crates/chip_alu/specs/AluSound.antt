@@ -4,7 +4,7 @@ use Rattle.std.proofs.Common.{sym, ap, subst, ◌∙◌, inl, inr, arith, lit≤
 use Rattle.std.proofs.lemmas.Bool.{and_parts, leb-true, le-leb}
 use Rattle.vm_field.specs.Field.{modulus}
 use Rattle.vm_isa.specs.Words.{IsBytes}
-use Rattle.vm_isa.specs.Opcodes.{is_from}
+use Rattle.vm_isa.specs.Opcodes.{is_from, is_register}
 use Rattle.air_core.specs.Flags.{OneHot, flag_constraints}
 use Rattle.air_core.specs.Sheet.{IsRow, RowHolds, AllZero, AllBelow, counted}
 use Rattle.air_core.specs.Lookups.{Good}
@@ -19,7 +19,7 @@ use Rattle.gadget_limbs.specs.Sum.{sum_constraints}
 use Rattle.gadget_limbs.proofs.LimbsLaws.{limbs_at_below}
 use Rattle.gadget_time.proofs.ToldLaws.{good_others}
 use Rattle.adapter_regs.specs.Regs.{regs_at, immediate_constraints, time_constraints}
-use Rattle.adapter_regs.specs.Laws.{is_register, RegsResult}
+use Rattle.adapter_regs.specs.Laws.{RegsResult}
 use Rattle.adapter_regs.proofs.Sound.{regs_sound, regs_silent, regs_no_hint}
 use Rattle.chip_alu.specs.declared.columns.AluRow.{AluRow}
 use Rattle.chip_alu.specs.Alu.{alu_sheet, alu_row, alu_flags, alu_valid, alu_op, alu_told, mixed_lines, alu_lines, alu_constraints}

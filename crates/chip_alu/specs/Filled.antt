@@ -27,7 +27,8 @@ use Rattle.gadget_limbs.proofs.SumHolds.{sum_holds_word, sum_off}
 use Rattle.gadget_limbs.proofs.BitLaws.{WordByBytes, xor_word, or_word, and_word}
 use Rattle.gadget_limbs.proofs.LookupLaws.{right_limb}
 use Rattle.adapter_regs.specs.Regs.{regs_filled, new_filled}
-use Rattle.adapter_regs.specs.Laws.{result, RegsFilled}
+use Rattle.vm_isa.specs.Results.{result}
+use Rattle.adapter_regs.specs.Laws.{RegsFilled}
 use Rattle.chip_alu.specs.declared.columns.AluRow.{AluRow}
 use Rattle.chip_alu.specs.Alu.{alu_flags, alu_valid, alu_op, alu_operation, lookup_lines, mixed_lines, alu_filled}
 use Rattle.chip_alu.specs.Results.{Set, op_set, operation_set, LimbGood, LimbOf, MixedGood, and_of_8, result_add, result_sub, result_xor, result_or, result_and}

@@ -7,7 +7,7 @@ use Rattle.vm_field.specs.Field.{modulus, field_add, field_mul}
 use Rattle.vm_word.specs.Word.{word_of_limbs}
 use Rattle.vm_word.specs.Arithmetic.{word_sum, word_difference}
 use Rattle.vm_isa.specs.Words.{IsBytes}
-use Rattle.vm_isa.specs.Results.{alu}
+use Rattle.vm_isa.specs.Results.{alu, result}
 use Rattle.air_core.specs.Sheet.{AllZero}
 use Rattle.air_core.specs.Lookups.{GoodEvent, IsXorRow}
 use Rattle.vm_field.specs.Limbs.{list_of, LimbsBelow}
@@ -20,7 +20,7 @@ use Rattle.gadget_limbs.proofs.SumLaw.{sum_law_word}
 use Rattle.gadget_limbs.proofs.BitLaws.{WordByBytes, xor_word, or_word, and_word}
 use Rattle.gadget_limbs.proofs.LookupLaws.{right_limb}
 use Rattle.gadget_time.specs.Laws.{OffMachine}
-use Rattle.adapter_regs.specs.Laws.{result, RegsResult}
+use Rattle.adapter_regs.specs.Laws.{RegsResult}
 use Rattle.chip_alu.specs.declared.columns.AluRow.{AluRow}
 use Rattle.chip_alu.specs.Alu.{alu_flags, alu_valid, alu_op, alu_operation, lookup_lines, mixed_lines}
 

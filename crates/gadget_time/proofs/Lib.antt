@@ -1,2 +1,3 @@
 pub mod ToldLaws
 pub mod Filled
+pub mod Touches

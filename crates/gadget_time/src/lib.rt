@@ -2,9 +2,11 @@
 //! before it.
 #![tactic(auto)]
 
+mod emission;
 pub mod laws;
 #[cfg(test)]
 mod tests;
 mod touch;
 
+pub use emission::{emit_touch, emit_touches, touches_broken};
 pub use touch::{Gap, Touch, gap_between, touch_constraint, touch_events};

@@ -1,7 +1,7 @@
 //! Accesses after the one before and at its time, by hand.
 
-use crate::{Gap, Touch, gap_between, touch_constraint, touch_events};
-use air_core::{Event, Side, Tuple, element};
+use crate::{Gap, Touch, emit_touch, gap_between, touch_constraint};
+use air_core::{Event, EventList, Side, Tuple, element};
 use std::test::Fail;
 use vm_field::{Fe, Limbs, MODULUS};
 
@@ -43,7 +43,7 @@ fn times(rt: HostRuntime) -> Result<(), Fail> {
     Ok(())
 }
 
-/// The four events, in the sheet's order, with the upper part in 8 bits and in 13.
+/// The four events, in the sheet's order, with the upper part in 8 bits and in 13; with a count of 0 none.
 #[test]
 fn events(rt: HostRuntime) -> Result<(), Fail> {
     let time = element(70000);
@@ -54,8 +54,17 @@ fn events(rt: HostRuntime) -> Result<(), Fail> {
         event(4, Side::Send, Tuple::of(&[4464, 16])),
         event(4, Side::Send, Tuple::of(&[1, 8])),
     ];
-    assert_eq!(rt; touch_events::<8>(time, &access), wanted);
-    let [_, _, _, hi] = touch_events::<13>(time, &access);
-    assert_eq!(rt; hi, event(4, Side::Send, Tuple::of(&[1, 13])));
+    let mut said = EventList::new(rt.alloc());
+    emit_touch::<8, EventList>(time, &access, &mut said)?;
+    assert_eq!(rt; said.as_slice(), wanted.as_slice());
+    let none = touch(Fe::ZERO, gap_between(70002, 1));
+    let mut said = EventList::new(rt.alloc());
+    emit_touch::<8, EventList>(time, &none, &mut said)?;
+    assert_eq!(rt; said.as_slice().len(), 0);
+    emit_touch::<13, EventList>(time, &access, &mut said)?;
+    assert_eq!(rt;
+        said.as_slice()[3],
+        event(4, Side::Send, Tuple::of(&[1, 13]))
+    );
     Ok(())
 }

@@ -243,7 +243,7 @@ exponent_of : (a : ℕ) → Exponent (suc a)
 exponent_of zero = record { n = 0; least = lit≤ tt; most = lit< tt }
 exponent_of (suc a) = next_exponent (suc a) (exponent_of a)
 
-no_rows : (bus place : ℕ) → place < rows_of bus → (bus ≡ 3) ⊎ ((bus ≡ 4) ⊎ (bus ≡ 5))
+pub no_rows : (bus place : ℕ) → place < rows_of bus → (bus ≡ 3) ⊎ ((bus ≡ 4) ⊎ (bus ≡ 5))
 no_rows bus place low =
     ⊎_elim
     (λ (a : bus ≡ 3). inl a)

@@ -3,7 +3,7 @@ use Rattle.std.proofs.Common.{◌≡◌, ℕ, ◌+◌, ◌*◌, ◌<◌, ◌≤�
 use Rattle.std.proofs.lemmas.Bool.Decides.{nat_tests}
 use Rattle.vm_word.specs.Word.{word_of_limbs}
 use Rattle.vm_isa.specs.Results.{extended, number_in, width_of}
-use Rattle.vm_isa.specs.Opcodes.{is_load}
+use Rattle.vm_isa.specs.Opcodes.{is_load, LB, LH, LW, LBU, LHU}
 
 pub number_in_byte : (block : List ℕ) (from : ℕ) → length block ≡ 4 → from < 4 → number_in block from 1 ≡ get_or block from 0
 unfolding number_in
@@ -39,7 +39,7 @@ number_in_word (a ∷ b ∷ c ∷ []) h = absurd (omega arith)
 number_in_word (a ∷ b ∷ c ∷ d ∷ []) h = refl
 number_in_word (a ∷ b ∷ c ∷ d ∷ e ∷ xs) h = absurd (omega arith)
 
-pub loaded_word : (op from : ℕ) (block : List ℕ) → length block ≡ 4 → op ≡ 13 → from + width_of op ≤ 4
+pub loaded_word : (op from : ℕ) (block : List ℕ) → length block ≡ 4 → op ≡ LW → from + width_of op ≤ 4
     → word_of_limbs block ≡ extended op (number_in block from (width_of op))
 unfolding extended width_of
 loaded_word op from block long e within =
@@ -47,5 +47,5 @@ loaded_word op from block long e within =
     let first : from ≡ 0 = omega arith in
     rw (e, first, number_in_word block long) refl
 
-pub is_word_load : (op : ℕ) → IsTrue (is_load op) → (op ≡ 11 → ⊥) → (op ≡ 14 → ⊥) → (op ≡ 12 → ⊥) → (op ≡ 15 → ⊥) → op ≡ 13
+pub is_word_load : (op : ℕ) → IsTrue (is_load op) → (op ≡ LB → ⊥) → (op ≡ LBU → ⊥) → (op ≡ LH → ⊥) → (op ≡ LHU → ⊥) → op ≡ LW
 is_word_load op load a b c d = grind (arith, nat_tests)

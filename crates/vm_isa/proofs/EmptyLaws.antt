@@ -7,6 +7,7 @@ use Rattle.vm_isa.specs.Means.{Meaning, means_of, places_by, places_of, accessed
 use Rattle.vm_isa.specs.Blocks.{hints_used}
 use Rattle.vm_isa.proofs.MeansLaws.{done_whole, whole}
 use Rattle.vm_isa.proofs.NextLaws.{meant, is_done}
+use Rattle.vm_isa.specs.Opcodes.{HINT}
 
 no_accessed : (new : ℕ → List ℕ → List ℕ) (places : List Place) → accessed_by new places [] ≡ []
 unfolding accessed_by
@@ -23,7 +24,7 @@ any_given i next given other h =
     done_whole i [] other (is_done i [] m.fits m.long) ∙ ap Some same
 
 -- a HINT has accesses
-hint_places : (i : VmInstr) (b c : ℕ) → i.op ≡ 37 → length (places_by i b c) ≡ 2
+hint_places : (i : VmInstr) (b c : ℕ) → i.op ≡ HINT → length (places_by i b c) ≡ 2
 unfolding places_by
 hint_places i b c h = rw h refl
 
@@ -31,5 +32,5 @@ hint_places i b c h = rw h refl
 pub no_hints_used : (i : VmInstr) (next : ℕ) (given : List ℕ) → means_of i [] given ≡ Some (record { accesses = []; next = next }) → hints_used i.op ≡ 0
 no_hints_used i next given h =
     let m = meant i [] given (record { accesses = []; next = next }) h in
-    let other : nat_eq i.op 37 ≡ false = ne_eqb i.op 37 (λ is. omega (arith, m.long, hint_places i (word_at [] 0) (word_at [] 1) is)) in
+    let other : nat_eq i.op HINT ≡ false = ne_eqb i.op HINT (λ is. omega (arith, m.long, hint_places i (word_at [] 0) (word_at [] 1) is)) in
     rw other refl

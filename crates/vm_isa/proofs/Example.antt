@@ -2,11 +2,12 @@
 use Rattle.std.proofs.Common.{false, [], ◌∷◌, refl, lit<, lit≤}
 use Rattle.vm_isa.specs.declared.instr.VmInstr.{VmInstr}
 use Rattle.vm_isa.specs.declared.record.StepRecord.{StepRecord}
+use Rattle.vm_isa.specs.Opcodes.{NOP}
 use Rattle.vm_isa.specs.Instr.{InRange}
 use Rattle.vm_isa.specs.Means.{Fillable, means_of, is_refused, bars_first, bars_second, places_by, accessed_by, next_of}
 
 abbrev pub fence : VmInstr
-fence = record { pc = 4096; op = 39; rd = 0; rs1 = 0; rs2 = 0; write = false; use_imm = false; imm = 0 ∷ 0 ∷ 0 ∷ 0 ∷ []; target = 0 }
+fence = record { pc = 4096; op = NOP; rd = 0; rs1 = 0; rs2 = 0; write = false; use_imm = false; imm = 0 ∷ 0 ∷ 0 ∷ 0 ∷ []; target = 0 }
 
 fence_in_range : InRange fence
 fence_in_range = record {

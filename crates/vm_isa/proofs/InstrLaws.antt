@@ -2,6 +2,7 @@
 use Rattle.std.proofs.Common.{◌≡◌, ℕ, Bool, true, false, List, [], ◌∷◌, length, slice_index, refl, sym, ◌∙◌, arith}
 use Rattle.vm_isa.specs.declared.instr.VmInstr.{VmInstr}
 use Rattle.vm_isa.specs.Instr.{InRange, numbers_of, bit_of}
+use Rattle.vm_isa.specs.Opcodes.{NOP}
 
 -- a word is its four bytes
 pub four : (xs : List ℕ) → length xs ≡ 4 → slice_index xs 0 ∷ slice_index xs 1 ∷ slice_index xs 2 ∷ slice_index xs 3 ∷ [] ≡ xs
@@ -39,7 +40,7 @@ numbers_of-same i j p q e =
     instr_same i j (cc) (cc) (cc) (cc) (cc) (bit_of-same i.write j.write write) (bit_of-same i.use_imm j.use_imm use_imm) (sym (four i.imm p) ∙ limbs ∙ four j.imm q) (cc)
 
 -- the row of a no-operation has its pc and its opcode alone
-pub numbers_of-nop : (i : VmInstr) → InRange i → i.op ≡ 39 → numbers_of i ≡ i.pc ∷ 39 ∷ 0 ∷ 0 ∷ 0 ∷ 0 ∷ 0 ∷ 0 ∷ 0 ∷ 0 ∷ 0 ∷ 0 ∷ []
+pub numbers_of-nop : (i : VmInstr) → InRange i → i.op ≡ NOP → numbers_of i ≡ i.pc ∷ NOP ∷ 0 ∷ 0 ∷ 0 ∷ 0 ∷ 0 ∷ 0 ∷ 0 ∷ 0 ∷ 0 ∷ 0 ∷ []
 unfolding numbers_of
 numbers_of-nop i r e =
     let f = r.nop e in

@@ -12,7 +12,7 @@ use Rattle.vm_word.proofs.WordLemmas.{word_of_limbs-lt, word_of_limbs-limbs_of}
 use Rattle.vm_isa.specs.declared.instr.VmInstr.{VmInstr}
 use Rattle.vm_isa.specs.declared.meaning.NextAccess.TheVariants.{NoMeaning}
 use Rattle.vm_isa.specs.Words.{IsWord}
-use Rattle.vm_isa.specs.Opcodes.{is_from, is_load, is_store}
+use Rattle.vm_isa.specs.Opcodes.{is_load, is_store, has_meaning, JALR, HINT, REVEAL, SHA}
 use Rattle.vm_isa.specs.Instr.{InRange}
 use Rattle.vm_isa.specs.Results.{width_of}
 use Rattle.vm_isa.specs.Means.{imm_of, address, is_bad, is_high, is_refused, bars_first, bars_second, known, places_of, next_access_of, word_at}
@@ -87,17 +87,17 @@ not_bad width pointer h = rw (h, zero-mod width) refl
 not_high : (pointer : ℕ) → pointer ≡ 0 → is_high pointer ≡ false
 not_high pointer h = rw h refl
 
-sha_first : (i : VmInstr) → InRange i → nat_eq i.op 40 ≡ true → first_of i ≡ 0
+sha_first : (i : VmInstr) → InRange i → nat_eq i.op SHA ≡ true → first_of i ≡ 0
 unfolding first_of imm_of
 sha_first i h op =
-    let is : i.op ≡ 40 = grind (arith, nat_tests) in
+    let is : i.op ≡ SHA = grind (arith, nat_tests) in
     rw ((h.sha is).3) refl
 
 first_fits : (i : VmInstr) → InRange i → bars_first i (first_of i) ≡ false
 unfolding bars_first
 first_fits i h =
     let here = address_zero i h in
-    bars_by (is_load i.op || is_store i.op) (nat_eq i.op 27) (nat_eq i.op 37 || nat_eq i.op 38) (nat_eq i.op 40) _ _ _ _
+    bars_by (is_load i.op || is_store i.op) (nat_eq i.op JALR) (nat_eq i.op HINT || nat_eq i.op REVEAL) (nat_eq i.op SHA) _ _ _ _
     (not_bad (width_of i.op) (address i (first_of i)) here) (not_high _ (rw here refl)) (not_bad 4 (address i (first_of i)) here)
     (λ op. not_high (first_of i) (sha_first i h op))
 
@@ -125,7 +125,7 @@ known_low test k n low h = and_true test (nat_lt k n) (grind (arith, nat_tests))
 
 second_zero : (i : VmInstr) → bars_second i 0 ≡ false
 unfolding bars_second
-second_zero i = and_false (nat_eq i.op 40)
+second_zero i = and_false (nat_eq i.op SHA)
 
 word_first : (i : VmInstr) (xs : List (List ℕ)) → word_at (limbs_of (first_of i) ∷ xs) 0 ≡ first_of i
 unfolding word_at first_of
@@ -148,19 +148,19 @@ fits_more : (i : VmInstr) (olds : List (List ℕ)) (n : ℕ) → InRange i → i
 unfolding is_refused rest
 fits_more i [] zero r h = h
 fits_more i [] (suc n) r h =
-    let parts = or_false (not (is_from 1 40 i.op)) (known [] 0 (bars_first i (word_at [] 0))) (known [] 1 (bars_second i (word_at [] 1))) h in
+    let parts = or_false (not (has_meaning i.op)) (known [] 0 (bars_first i (word_at [] 0))) (known [] 1 (bars_second i (word_at [] 1))) h in
     let first : bars_first i (word_at (limbs_of (first_of i) ∷ replicate n zeros) 0) ≡ false = ap (bars_first i) (word_first i (replicate n zeros)) ∙ first_fits i r in
     let second : bars_second i (word_at (limbs_of (first_of i) ∷ replicate n zeros) 1) ≡ false = ap (bars_second i) (word_zero (limbs_of (first_of i)) n) ∙ second_zero i in
     all_false _ _ _ _ _ parts.0 first second
 fits_more i (x ∷ []) n r h =
-    let parts = or_false (not (is_from 1 40 i.op)) (known (x ∷ []) 0 (bars_first i (word_at (x ∷ []) 0))) (known (x ∷ []) 1 (bars_second i (word_at (x ∷ []) 1))) h in
+    let parts = or_false (not (has_meaning i.op)) (known (x ∷ []) 0 (bars_first i (word_at (x ∷ []) 0))) (known (x ∷ []) 1 (bars_second i (word_at (x ∷ []) 1))) h in
     let first = known_low (bars_first i (word_at (x ∷ []) 0)) 0 (length (x ∷ [])) (omega arith) parts.1 in
     let here : bars_first i (word_at (x ∷ replicate n zeros) 0) ≡ false = ap (bars_first i) (front x (replicate n zeros) []) ∙ first in
     let second : bars_second i (word_at (x ∷ replicate n zeros) 1) ≡ false = ap (bars_second i) (word_zero x n) ∙ second_zero i in
     all_false _ _ _ _ _ parts.0 here second
 fits_more i (x ∷ y ∷ olds) n r h =
     let known_words = x ∷ y ∷ olds in
-    let parts = or_false (not (is_from 1 40 i.op)) (known known_words 0 (bars_first i (word_at known_words 0))) (known known_words 1 (bars_second i (word_at known_words 1))) h in
+    let parts = or_false (not (has_meaning i.op)) (known known_words 0 (bars_first i (word_at known_words 0))) (known known_words 1 (bars_second i (word_at known_words 1))) h in
     let first = known_low (bars_first i (word_at known_words 0)) 0 (length known_words) (omega arith) parts.1 in
     let second = known_low (bars_second i (word_at known_words 1)) 1 (length known_words) (omega arith) parts.2 in
     let more = replicate n zeros in

@@ -13,3 +13,6 @@ pub mod RowSteps
 pub mod Shapes
 pub mod ShaShape
 pub mod SpaceLaws
+pub mod InRangeLaws
+pub mod ResultLaws
+pub mod RegisterForm

@@ -7,6 +7,7 @@ use Rattle.vm_isa.specs.declared.record.StepRecord.{StepRecord}
 use Rattle.vm_isa.specs.declared.meaning.Place.{Place}
 use Rattle.vm_isa.specs.declared.meaning.NextAccess.TheVariants.{NoMeaning, Done}
 use Rattle.vm_isa.specs.Means.{Meaning, Fillable, means_of, is_refused, bars_first, bars_second, places_by, places_of, accessed_by, new_at, next_of, at_place, in_places, next_access_of}
+use Rattle.vm_isa.specs.Opcodes.{NOP}
 
 at_place-done : (o : Option Place) (ends : Bool) → at_place o ends ≡ Done → ends ≡ true
 at_place-done (Some p) ends h = absurd (cc)
@@ -40,7 +41,7 @@ goes_on i (old ∷ olds) = None
 no_length : (old : List ℕ) (olds : List (List ℕ)) → nat_eq (length (old ∷ olds)) 0 ≡ false
 no_length old olds = grind (arith, nat_tests)
 
-pub means_of-nop : (i : VmInstr) (olds : List (List ℕ)) (given : List ℕ) → i.op ≡ 39 → i.pc < 2 ^ 29 → means_of i olds given ≡ goes_on i olds
+pub means_of-nop : (i : VmInstr) (olds : List (List ℕ)) (given : List ℕ) → i.op ≡ NOP → i.pc < 2 ^ 29 → means_of i olds given ≡ goes_on i olds
 unfolding means_of is_refused bars_first bars_second places_by accessed_by next_of
 means_of-nop i [] given e low =
     let next : (i.pc + 4) % 2 ^ 32 ≡ i.pc + 4 = omega arith in
@@ -57,7 +58,7 @@ goes_on_shape i [] m e = record { none = refl; next_is = ap (λ (x : Meaning). x
 goes_on_shape i (a ∷ more) m e = absurd (cc)
 
 -- so is the step of a no-operation
-pub nop_goes_on : (bits : ℕ) (done : StepRecord) → Fillable bits done → done.instr.op ≡ 39 → GoesOn done.instr done.next done.accesses
+pub nop_goes_on : (bits : ℕ) (done : StepRecord) → Fillable bits done → done.instr.op ≡ NOP → GoesOn done.instr done.next done.accesses
 nop_goes_on bits done f e =
     let shape = goes_on_shape done.instr done.accesses f.meaning (sym (means_of-nop done.instr (map (λ a. a.access.old) done.accesses) f.given e f.in_range.low) ∙ f.means) in
     record { none = shape.none; next_is = f.next ∙ shape.next_is }

@@ -12,9 +12,9 @@ use Rattle.vm_word.specs.Arithmetic.{word_sum}
 use Rattle.vm_isa.specs.declared.instr.VmInstr.{VmInstr}
 use Rattle.vm_isa.specs.declared.meaning.Place.{Place}
 use Rattle.vm_isa.specs.declared.meaning.NextAccess.TheVariants.{Done}
-use Rattle.vm_isa.specs.Opcodes.{is_alu, is_load, is_store, is_branch, is_upper, is_mul}
+use Rattle.vm_isa.specs.Opcodes.{is_load, is_store, is_branch, is_upper, is_register, LB, LH, LW, LBU, LHU, SB, SH, SW, JAL, JALR, HINT, REVEAL, SHA}
 use Rattle.vm_isa.specs.Results.{width_of}
-use Rattle.vm_isa.specs.Means.{Accessed, HasNew, Meaning, means_of, is_refused, bars_first, compressed, is_bad, address, in_block, memory, places_by, places_of, sha_places, slot_at, accessed_by, new_at, next_access_of, word_at}
+use Rattle.vm_isa.specs.Means.{Accessed, HasNew, Meaning, means_of, is_refused, bars_first, compressed, is_bad, address, in_block, register, memory, places_by, places_of, sha_places, slot_at, accessed_by, new_at, next_access_of, word_at}
 use Rattle.vm_isa.proofs.MeansLaws.{whole, done_whole}
 use Rattle.vm_isa.proofs.NextLaws.{meant}
 use Rattle.vm_isa.proofs.PlaceLaws.{sha-block, sha-state}
@@ -67,23 +67,23 @@ sha_two i b c k p false false lo hi h =
 
 sha_order : (i : VmInstr) (b c : ℕ) → InOrder (sha_places i b c)
 unfolding InOrder
-sha_order i b c zero p h = ap (λ (x : Place). x.slot) (let same : p ≡ record { slot = 0; space = 1; pointer = 4 * i.rd } = cc in same)
-sha_order i b c (suc zero) p h = ap (λ (x : Place). x.slot) (let same : p ≡ record { slot = 1; space = 1; pointer = 4 * i.rs1 } = cc in same)
+sha_order i b c zero p h = ap (λ (x : Place). x.slot) (let same : p ≡ register 0 i.rd = cc in same)
+sha_order i b c (suc zero) p h = ap (λ (x : Place). x.slot) (let same : p ≡ register 1 i.rs1 = cc in same)
 sha_order i b c (suc (suc k)) p h = sha_two i b c k p (nat_lt k 16) (nat_lt k 24) refl refl h
 
 -- the slots of an instruction's places are those that slot_at names
 Slotted : VmInstr → List Place → Type 0
 Slotted i ps = (k : ℕ) (p : Place) → slice_get ps k ≡ Some p → p.slot ≡ slot_at i k
 
-no_operation : (i : VmInstr) (ps : List Place) → is_alu i.op || is_mul i.op ≡ false → InOrder ps → Slotted i ps
+no_operation : (i : VmInstr) (ps : List Place) → is_register i.op ≡ false → InOrder ps → Slotted i ps
 unfolding Slotted InOrder slot_at
 no_operation i ps fails order k p h = order k p h ∙ rw fails refl
 
-by_register : (i : VmInstr) (ps : List Place) → is_alu i.op || is_mul i.op ≡ true → i.use_imm ≡ false → InOrder ps → Slotted i ps
+by_register : (i : VmInstr) (ps : List Place) → is_register i.op ≡ true → i.use_imm ≡ false → InOrder ps → Slotted i ps
 unfolding Slotted InOrder slot_at
 by_register i ps holds fails order k p h = order k p h ∙ rw (holds, fails) refl
 
-by_immediate : (i : VmInstr) (x y : Place) → is_alu i.op || is_mul i.op ≡ true → i.use_imm ≡ true → x.slot ≡ 0 → y.slot ≡ 2 → Slotted i (x ∷ y ∷ [])
+by_immediate : (i : VmInstr) (x y : Place) → is_register i.op ≡ true → i.use_imm ≡ true → x.slot ≡ 0 → y.slot ≡ 2 → Slotted i (x ∷ y ∷ [])
 unfolding Slotted slot_at
 by_immediate i x y holds imm a b zero p h = let same : x ≡ p = cc in let slot : p.slot ≡ 0 = cc in slot ∙ rw (holds, imm) refl
 by_immediate i x y holds imm a b (suc zero) p h = let same : y ≡ p = cc in let slot : p.slot ≡ 2 = cc in slot ∙ rw (holds, imm) refl
@@ -93,18 +93,18 @@ slotted : (i : VmInstr) (b c : ℕ) → Slotted i (places_by i b c)
 unfolding places_by
 slotted i b c =
     let P : List Place → Type 0 = Slotted i in
-    each P (is_alu i.op || is_mul i.op) _ _
+    each P (is_register i.op) _ _
     (λ holds. each P i.use_imm _ _ (λ imm. by_immediate i _ _ holds imm refl refl) (λ fails. by_register i _ holds fails (three _ _ _ refl refl refl)))
     (λ fails.
     each P (is_load i.op) _ _ (λ h. each P i.write _ _ (λ w. no_operation i _ fails (three _ _ _ refl refl refl)) (λ w. no_operation i _ fails (two _ _ refl refl)))
     (λ h. each P (is_store i.op) _ _ (λ t. no_operation i _ fails (three _ _ _ refl refl refl))
     (λ h. each P (is_branch i.op) _ _ (λ t. no_operation i _ fails (two _ _ refl refl))
-    (λ h. each P (nat_eq i.op 25) _ _ (λ t. each P i.write _ _ (λ w. no_operation i _ fails (one _ refl)) (λ w. no_operation i _ fails none))
+    (λ h. each P (nat_eq i.op JAL) _ _ (λ t. each P i.write _ _ (λ w. no_operation i _ fails (one _ refl)) (λ w. no_operation i _ fails none))
     (λ h. each P (is_upper i.op) _ _ (λ t. no_operation i _ fails (one _ refl))
-    (λ h. each P (nat_eq i.op 27) _ _ (λ t. each P i.write _ _ (λ w. no_operation i _ fails (two _ _ refl refl)) (λ w. no_operation i _ fails (one _ refl)))
-    (λ h. each P (nat_eq i.op 37) _ _ (λ t. no_operation i _ fails (two _ _ refl refl))
-    (λ h. each P (nat_eq i.op 38) _ _ (λ t. no_operation i _ fails (three _ _ _ refl refl refl))
-    (λ h. each P (nat_eq i.op 40) _ _ (λ t. no_operation i _ fails (sha_order i b c)) (λ t. no_operation i _ fails none))))))))))
+    (λ h. each P (nat_eq i.op JALR) _ _ (λ t. each P i.write _ _ (λ w. no_operation i _ fails (two _ _ refl refl)) (λ w. no_operation i _ fails (one _ refl)))
+    (λ h. each P (nat_eq i.op HINT) _ _ (λ t. no_operation i _ fails (two _ _ refl refl))
+    (λ h. each P (nat_eq i.op REVEAL) _ _ (λ t. no_operation i _ fails (three _ _ _ refl refl refl))
+    (λ h. each P (nat_eq i.op SHA) _ _ (λ t. no_operation i _ fails (sha_order i b c)) (λ t. no_operation i _ fails none))))))))))
 
 new_of : (new : ℕ → List ℕ → List ℕ) (ps : List Place) (xs : List (List ℕ)) (k : ℕ) (p : Place) (x : List ℕ)
     → slice_get ps k ≡ Some p → slice_get xs k ≡ Some x → slice_get (map (λ (a : Accessed). a.new) (accessed_by new ps xs)) k ≡ Some (new p.slot x)
@@ -136,38 +136,38 @@ done_new i olds given word number h low e =
 -- ---- what the words of a whole meaning are known to have
 
 -- at least two, where an instruction moves its second word
-two_places : (i : VmInstr) (b c : ℕ) → (nat_eq i.op 25 ≡ true → ⊥) → (is_upper i.op ≡ true → ⊥) → (nat_eq i.op 27 ≡ true → ⊥)
-    → (is_store i.op ≡ false → nat_eq i.op 38 ≡ false → is_load i.op ≡ false → ⊥) → 2 ≤ length (places_by i b c)
+two_places : (i : VmInstr) (b c : ℕ) → (nat_eq i.op JAL ≡ true → ⊥) → (is_upper i.op ≡ true → ⊥) → (nat_eq i.op JALR ≡ true → ⊥)
+    → (is_store i.op ≡ false → nat_eq i.op REVEAL ≡ false → is_load i.op ≡ false → ⊥) → 2 ≤ length (places_by i b c)
 unfolding places_by
 two_places i b c jal upper jalr other =
     let P : List Place → Type 0 = λ ps. 2 ≤ length ps in
-    each P (is_alu i.op || is_mul i.op) _ _
+    each P (is_register i.op) _ _
     (λ h. each P i.use_imm _ _ (λ w. lit≤ tt) (λ w. lit≤ tt))
     (λ n. each P (is_load i.op) _ _ (λ h. each P i.write _ _ (λ w. lit≤ tt) (λ w. lit≤ tt))
     (λ l. each P (is_store i.op) _ _ (λ t. lit≤ tt)
     (λ s. each P (is_branch i.op) _ _ (λ t. lit≤ tt)
-    (λ h. each P (nat_eq i.op 25) _ _ (λ t. absurd (jal t))
+    (λ h. each P (nat_eq i.op JAL) _ _ (λ t. absurd (jal t))
     (λ h. each P (is_upper i.op) _ _ (λ t. absurd (upper t))
-    (λ h. each P (nat_eq i.op 27) _ _ (λ t. absurd (jalr t))
-    (λ h. each P (nat_eq i.op 37) _ _ (λ t. lit≤ tt)
-    (λ h. each P (nat_eq i.op 38) _ _ (λ t. lit≤ tt)
+    (λ h. each P (nat_eq i.op JALR) _ _ (λ t. absurd (jalr t))
+    (λ h. each P (nat_eq i.op HINT) _ _ (λ t. lit≤ tt)
+    (λ h. each P (nat_eq i.op REVEAL) _ _ (λ t. lit≤ tt)
     (λ r. absurd (other s r l))))))))))
 
-pub second_moved : (i : VmInstr) (olds : List (List ℕ)) → next_access_of i olds ≡ Done → 11 ≤ i.op → i.op ≤ 18 → 1 < length olds
+pub second_moved : (i : VmInstr) (olds : List (List ℕ)) → next_access_of i olds ≡ Done → LB ≤ i.op → i.op ≤ SW → 1 < length olds
 second_moved i olds h low high =
     let long : length olds ≡ length (places_of i olds) = long_of i olds h in
     let two : 2 ≤ length (places_by i (word_at olds 0) (word_at olds 1)) =
     two_places i (word_at olds 0) (word_at olds 1) (λ t. grind (arith, nat_tests)) (λ t. grind (arith, nat_tests)) (λ t. grind (arith, nat_tests)) (λ s r l. grind (arith, nat_tests)) in
     omega arith
 
-pub second_revealed : (i : VmInstr) (olds : List (List ℕ)) → next_access_of i olds ≡ Done → i.op ≡ 38 → 1 < length olds
+pub second_revealed : (i : VmInstr) (olds : List (List ℕ)) → next_access_of i olds ≡ Done → i.op ≡ REVEAL → 1 < length olds
 second_revealed i olds h e =
     let long : length olds ≡ length (places_of i olds) = long_of i olds h in
     let two : 2 ≤ length (places_by i (word_at olds 0) (word_at olds 1)) =
     two_places i (word_at olds 0) (word_at olds 1) (λ t. grind (arith, nat_tests)) (λ t. grind (arith, nat_tests)) (λ t. grind (arith, nat_tests)) (λ s r l. grind (arith, nat_tests)) in
     omega arith
 
-pub sha_known : (i : VmInstr) (olds : List (List ℕ)) → next_access_of i olds ≡ Done → i.op ≡ 40 → length olds ≡ 26
+pub sha_known : (i : VmInstr) (olds : List (List ℕ)) → next_access_of i olds ≡ Done → i.op ≡ SHA → length olds ≡ 26
 unfolding places_by
 sha_known i olds h e =
     let long : length olds ≡ length (places_of i olds) = long_of i olds h in
@@ -198,14 +198,14 @@ pick false a b p q = q
 
 widths : (op : ℕ) → (width_of op ≡ 1) ⊎ ((width_of op ≡ 2) ⊎ (width_of op ≡ 4))
 unfolding width_of
-widths op = pick (nat_eq op 11) _ _ (inl refl) (pick (nat_eq op 12) _ _ (inr (inl refl)) (pick (nat_eq op 13) _ _ (inr (inr refl)) (pick (nat_eq op 14) _ _ (inl refl) (pick (nat_eq op 15) _ _ (inr (inl refl)) (pick (nat_eq op 16) _ _ (inl refl) (pick (nat_eq op 17) _ _ (inr (inl refl)) (inr (inr refl))))))))
+widths op = pick (nat_eq op LB) _ _ (inl refl) (pick (nat_eq op LH) _ _ (inr (inl refl)) (pick (nat_eq op LW) _ _ (inr (inr refl)) (pick (nat_eq op LBU) _ _ (inl refl) (pick (nat_eq op LHU) _ _ (inr (inl refl)) (pick (nat_eq op SB) _ _ (inl refl) (pick (nat_eq op SH) _ _ (inr (inl refl)) (inr (inr refl))))))))
 
 block_end : (width a : ℕ) → (width ≡ 1) ⊎ ((width ≡ 2) ⊎ (width ≡ 4)) → a % width ≡ 0 → a % 4 + width ≤ 4
 block_end width a (inl e) h = omega arith
 block_end width a (inr (inl e)) h = let even : a % 2 ≡ 0 = rw e at h in omega arith
 block_end width a (inr (inr e)) h = let whole : a % 4 ≡ 0 = rw e at h in omega arith
 
-pub in_one_block : (i : VmInstr) (olds : List (List ℕ)) → next_access_of i olds ≡ Done → 11 ≤ i.op → i.op ≤ 18 → in_block i (word_at olds 0) + width_of i.op ≤ 4
+pub in_one_block : (i : VmInstr) (olds : List (List ℕ)) → next_access_of i olds ≡ Done → LB ≤ i.op → i.op ≤ SW → in_block i (word_at olds 0) + width_of i.op ≤ 4
 unfolding bars_first
 in_one_block i olds h low high =
     let second : 1 < length olds = second_moved i olds h low high in
@@ -218,17 +218,17 @@ few_places : (i : VmInstr) (b c : ℕ) → length (places_by i b c) ≤ 26
 unfolding places_by
 few_places i b c =
     let P : List Place → Type 0 = λ ps. length ps ≤ 26 in
-    each P (is_alu i.op || is_mul i.op) _ _
+    each P (is_register i.op) _ _
     (λ h. each P i.use_imm _ _ (λ w. lit≤ tt) (λ w. lit≤ tt))
     (λ h. each P (is_load i.op) _ _ (λ h. each P i.write _ _ (λ w. lit≤ tt) (λ w. lit≤ tt))
     (λ h. each P (is_store i.op) _ _ (λ t. lit≤ tt)
     (λ h. each P (is_branch i.op) _ _ (λ t. lit≤ tt)
-    (λ h. each P (nat_eq i.op 25) _ _ (λ t. each P i.write _ _ (λ w. lit≤ tt) (λ w. lit≤ tt))
+    (λ h. each P (nat_eq i.op JAL) _ _ (λ t. each P i.write _ _ (λ w. lit≤ tt) (λ w. lit≤ tt))
     (λ h. each P (is_upper i.op) _ _ (λ t. lit≤ tt)
-    (λ h. each P (nat_eq i.op 27) _ _ (λ t. each P i.write _ _ (λ w. lit≤ tt) (λ w. lit≤ tt))
-    (λ h. each P (nat_eq i.op 37) _ _ (λ t. lit≤ tt)
-    (λ h. each P (nat_eq i.op 38) _ _ (λ t. lit≤ tt)
-    (λ h. each P (nat_eq i.op 40) _ _ (λ t. lit≤ tt) (λ t. lit≤ tt))))))))))
+    (λ h. each P (nat_eq i.op JALR) _ _ (λ t. each P i.write _ _ (λ w. lit≤ tt) (λ w. lit≤ tt))
+    (λ h. each P (nat_eq i.op HINT) _ _ (λ t. lit≤ tt)
+    (λ h. each P (nat_eq i.op REVEAL) _ _ (λ t. lit≤ tt)
+    (λ h. each P (nat_eq i.op SHA) _ _ (λ t. lit≤ tt) (λ t. lit≤ tt))))))))))
 
 two_or : (t : Bool) (n : ℕ) → n < 26 → (if t then 2 else n) < 26
 two_or true n h = lit< tt
@@ -239,7 +239,7 @@ unfolding slot_at
 slot_small i olds number slot h low e =
     let long : length olds ≡ length (places_of i olds) = long_of i olds h in
     let few : length (places_of i olds) ≤ 26 = few_places i _ _ in
-    rw e (two_or ((is_alu i.op || is_mul i.op) && (i.use_imm && nat_eq number 1)) number (omega arith))
+    rw e (two_or (is_register i.op && (i.use_imm && nat_eq number 1)) number (omega arith))
 
 pub state_words : (state : List ℕ) (olds : List (List ℕ)) → length state ≡ 8 → length olds ≡ 26
     → ((k : ℕ) → k < 8 → get_or state k 0 ≡ word_of_limbs (get_or olds (18 + k) [])) → state ≡ map word_of_limbs (take 8 (drop 18 olds))

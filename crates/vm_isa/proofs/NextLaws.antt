@@ -6,7 +6,7 @@ use Rattle.std.proofs.lemmas.Option.{slice_get_past}
 use Rattle.vm_isa.specs.declared.instr.VmInstr.{VmInstr}
 use Rattle.vm_isa.specs.declared.meaning.Place.{Place}
 use Rattle.vm_isa.specs.declared.meaning.NextAccess.TheVariants.{NoMeaning, At, Done}
-use Rattle.vm_isa.specs.Opcodes.{is_from}
+use Rattle.vm_isa.specs.Opcodes.{has_meaning}
 use Rattle.vm_isa.specs.Means.{Accessed, Meaning, means_of, is_refused, bars_first, bars_second, known, places_of, accessed_by, new_at, at_place, in_places, next_access_of, word_at}
 use Rattle.vm_isa.specs.Laws.{NoMeaningIsFinal, DoneIsAMeaning, NextIsTheMeanings}
 use Rattle.vm_isa.proofs.MeansLaws.{whole, done_whole}
@@ -49,7 +49,7 @@ known_more test olds more k h =
 pub refused_more : (i : VmInstr) (olds more : List (List ℕ)) → is_refused i olds ≡ true → is_refused i (olds ++ more) ≡ true
 unfolding is_refused
 refused_more i olds more h =
-    or_more (not (is_from 1 40 i.op)) (known olds 0 (bars_first i (word_at olds 0))) (known olds 1 (bars_second i (word_at olds 1)))
+    or_more (not (has_meaning i.op)) (known olds 0 (bars_first i (word_at olds 0))) (known olds 1 (bars_second i (word_at olds 1)))
     (known (olds ++ more) 0 (bars_first i (word_at (olds ++ more) 0))) (known (olds ++ more) 1 (bars_second i (word_at (olds ++ more) 1)))
     (known_more (bars_first i) olds more 0) (known_more (bars_second i) olds more 1) h
 

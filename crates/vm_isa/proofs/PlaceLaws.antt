@@ -9,6 +9,7 @@ use Rattle.std.proofs.lemmas.List.FromFn.{get_or-map-range_with_len, length-map-
 use Rattle.vm_word.specs.Arithmetic.{word_sum}
 use Rattle.vm_isa.specs.declared.instr.VmInstr.{VmInstr}
 use Rattle.vm_isa.specs.declared.meaning.NextAccess.TheVariants.{NoMeaning, At}
+use Rattle.vm_isa.specs.Spaces.{MEMORY}
 use Rattle.vm_isa.specs.Means.{in_places, memory, sha_places}
 
 get-left : {X : Type 0} (f g : ℕ → X) (n m j : ℕ) → j < n
@@ -41,7 +42,7 @@ pub sha-state : (i : VmInstr) (b c : ℕ) (j : ℕ) → 16 ≤ j → j < 24
 sha-state i b c j low high = get-right (λ k. memory (2 + k) (word_sum c (4 * k))) (λ k. memory (18 + k) (word_sum b (4 * k))) 16 8 j low high
 
 pub in_sha-block : (i : VmInstr) (b c : ℕ) (k : ℕ) → 2 ≤ k → k < 18
-    → in_places (sha_places i b c) k ≡ At k 2 (word_sum c (4 * (k - 2)))
+    → in_places (sha_places i b c) k ≡ At k MEMORY (word_sum c (4 * (k - 2)))
 in_sha-block i b c k low high =
     let at : k ≡ suc (suc (k - 2)) = omega arith in
     let back : 2 + (k - 2) ≡ k = omega arith in
@@ -50,7 +51,7 @@ in_sha-block i b c k low high =
     rw (is, back) refl
 
 pub in_sha-state : (i : VmInstr) (b c : ℕ) (k : ℕ) → 18 ≤ k → k < 26
-    → in_places (sha_places i b c) k ≡ At k 2 (word_sum b (4 * (k - 18)))
+    → in_places (sha_places i b c) k ≡ At k MEMORY (word_sum b (4 * (k - 18)))
 in_sha-state i b c k low high =
     let at : k ≡ suc (suc (k - 2)) = omega arith in
     let off : k - 2 - 16 ≡ k - 18 = omega arith in

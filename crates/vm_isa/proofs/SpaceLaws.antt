@@ -2,22 +2,23 @@
 use Rattle.std.proofs.Common.{◌≡◌, ℕ, ◌%◌, ◌<◌, ◌≤◌, ⊎_elim, true, nat_eq, nat_lt, arith}
 use Rattle.std.proofs.lemmas.Bool.{cases_eq, eq-eqb, ne_eqb, eqb-true, and_parts}
 use Rattle.std.proofs.lemmas.Bool.Decides.{nat_tests}
+use Rattle.vm_isa.specs.Spaces.{REGISTERS, MEMORY, PUBLIC}
 use Rattle.vm_isa.specs.Blocks.{is_block, space_size}
 
 size_small : (space : ℕ) → space_size space ≤ 536870912
 size_small space =
     ⊎_elim
-    (λ (registers : space ≡ 1). rw (eq-eqb space 1 registers) (omega arith))
-    (λ (not_1 : space ≡ 1 → ⊥).
+    (λ (registers : space ≡ REGISTERS). rw (eq-eqb space REGISTERS registers) (omega arith))
+    (λ (not_registers : space ≡ REGISTERS → ⊥).
     ⊎_elim
-    (λ (memory : space ≡ 2). rw (ne_eqb space 1 not_1, eq-eqb space 2 memory) (omega arith))
-    (λ (not_2 : space ≡ 2 → ⊥).
+    (λ (memory : space ≡ MEMORY). rw (ne_eqb space REGISTERS not_registers, eq-eqb space MEMORY memory) (omega arith))
+    (λ (not_memory : space ≡ MEMORY → ⊥).
     ⊎_elim
-    (λ (public : space ≡ 3). rw (ne_eqb space 1 not_1, ne_eqb space 2 not_2, eq-eqb space 3 public) (omega arith))
-    (λ (not_3 : space ≡ 3 → ⊥). rw (ne_eqb space 1 not_1, ne_eqb space 2 not_2, ne_eqb space 3 not_3) (omega arith))
-    (cases_eq space 3))
-    (cases_eq space 2))
-    (cases_eq space 1)
+    (λ (public : space ≡ PUBLIC). rw (ne_eqb space REGISTERS not_registers, ne_eqb space MEMORY not_memory, eq-eqb space PUBLIC public) (omega arith))
+    (λ (not_public : space ≡ PUBLIC → ⊥). rw (ne_eqb space REGISTERS not_registers, ne_eqb space MEMORY not_memory, ne_eqb space PUBLIC not_public) (omega arith))
+    (cases_eq space PUBLIC))
+    (cases_eq space MEMORY))
+    (cases_eq space REGISTERS)
 
 below_from_test : (a b : ℕ) → nat_lt a b ≡ true → a < b
 below_from_test a b h = grind (arith, nat_tests)

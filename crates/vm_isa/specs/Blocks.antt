@@ -4,6 +4,8 @@ use Rattle.std.specs.Prelude.{◌≡◌, ℕ, zero, suc, ◌*◌, ◌%◌, ◌^�
 use Rattle.std.specs.List.{range_with_len}
 use Rattle.vm_isa.specs.declared.instr.VmInstr.{VmInstr}
 use Rattle.vm_isa.specs.Means.{Accessed, Meaning, means_of}
+use Rattle.vm_isa.specs.Opcodes.{HINT, TERMINATE}
+use Rattle.vm_isa.specs.Spaces.{REGISTERS, MEMORY, PUBLIC}
 
 -- the word at each space and pointer
 abbrev pub Blocks : Type 0
@@ -15,9 +17,9 @@ pub record VmState : Type 0 where
   -- the hint bytes that are left
   pub hints : List ℕ
 
--- the bytes of a space: 1 has the registers (register r at 4 * r), 2 the memory, 3 the public bytes
+-- the bytes of a space: register r is at 4 * r
 abbrev pub space_size : ℕ → ℕ
-space_size space = if nat_eq space 1 then 128 else if nat_eq space 2 then 2 ^ 29 else if nat_eq space 3 then 64 else 0
+space_size space = if nat_eq space REGISTERS then 128 else if nat_eq space MEMORY then 2 ^ 29 else if nat_eq space PUBLIC then 64 else 0
 
 -- a block is at a multiple of 4
 abbrev pub is_block : ℕ → ℕ → Bool
@@ -39,7 +41,7 @@ after_accesses blocks (a ∷ more) = after_accesses (with_block blocks a.space a
 
 -- HINT uses up four hint bytes
 abbrev pub hints_used : ℕ → ℕ
-hints_used op = if nat_eq op 37 then 4 else 0
+hints_used op = if nat_eq op HINT then 4 else 0
 
 -- A step. There is none where no row stands at the pc, where the row has no meaning, where an access
 -- is not to a block, and where a HINT finds too few hint bytes.
@@ -59,14 +61,14 @@ VmGoes program start zero t = t ≡ start
 VmGoes program start (suc n) t = (before : VmState) × VmGoes program start n before × VmStep program before t
 
 abbrev pub public_bytes_of : Blocks → List ℕ
-public_bytes_of blocks = flat_map (λ j. blocks 3 (4 * j)) (range_with_len 0 16)
+public_bytes_of blocks = flat_map (λ j. blocks PUBLIC (4 * j)) (range_with_len 0 16)
 
 -- at a pc of the program stands a TERMINATE with this exit code
 pub record Terminates (program : List VmInstr) (pc code : ℕ) : Type 0 where
   pub row : VmInstr
   pub stands : Contains program row
   pub here : row.pc ≡ pc
-  pub is_end : row.op ≡ 41
+  pub is_end : row.op ≡ TERMINATE
   pub states : slice_index row.imm 0 ≡ code
 
 -- after n steps the program is at a TERMINATE with this exit code, and these bytes are public

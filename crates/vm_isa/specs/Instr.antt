@@ -2,7 +2,7 @@
 use Rattle.std.specs.Prelude.{◌≡◌, ℕ, ◌%◌, ◌^◌, ◌<◌, Bool, true, false, if◌then◌else◌, List, [], ◌∷◌, slice_index}
 use Rattle.vm_isa.specs.declared.instr.VmInstr.{VmInstr}
 use Rattle.vm_isa.specs.Words.{IsWord}
-use Rattle.vm_isa.specs.Opcodes.{is_opcode, is_alu, is_load, is_store, is_branch, is_upper, is_mul}
+use Rattle.vm_isa.specs.Opcodes.{is_opcode, is_alu, is_load, is_store, is_branch, is_upper, is_mul, JAL, JALR, HINT, REVEAL, NOP, SHA, TERMINATE}
 
 abbrev pub bit_of : Bool → ℕ
 bit_of b = if b then 1 else 0
@@ -34,15 +34,15 @@ pub record InRange (i : VmInstr) : Type 0 where
   pub load : is_load i.op ≡ true → (i.rs2 ≡ 0) × (i.use_imm ≡ false) × (i.target ≡ 0)
   pub store : is_store i.op ≡ true → (i.rd ≡ 0) × (i.write ≡ false) × (i.use_imm ≡ false) × (i.target ≡ 0)
   pub branch : is_branch i.op ≡ true → (i.rd ≡ 0) × (i.write ≡ false) × (i.use_imm ≡ false) × NoImm i
-  pub jal : i.op ≡ 25 → (i.rs1 ≡ 0) × (i.rs2 ≡ 0) × (i.use_imm ≡ false) × NoImm i
+  pub jal : i.op ≡ JAL → (i.rs1 ≡ 0) × (i.rs2 ≡ 0) × (i.use_imm ≡ false) × NoImm i
   pub upper : is_upper i.op ≡ true → (i.rs1 ≡ 0) × (i.rs2 ≡ 0) × (i.write ≡ true) × (i.use_imm ≡ false) × (i.target ≡ 0)
-  pub jalr : i.op ≡ 27 → (i.rs2 ≡ 0) × (i.use_imm ≡ false) × (i.target ≡ 0)
+  pub jalr : i.op ≡ JALR → (i.rs2 ≡ 0) × (i.use_imm ≡ false) × (i.target ≡ 0)
   pub mul : is_mul i.op ≡ true → (i.write ≡ true) × (i.use_imm ≡ false) × NoImm i × (i.target ≡ 0)
-  pub hint : i.op ≡ 37 → (i.rs1 ≡ 0) × (i.rs2 ≡ 0) × (i.write ≡ false) × (i.use_imm ≡ false) × (i.target ≡ 0)
-  pub reveal : i.op ≡ 38 → (i.rs2 ≡ 0) × (i.write ≡ false) × (i.use_imm ≡ false) × (i.target ≡ 0)
-  pub nop : i.op ≡ 39 → (i.rd ≡ 0) × (i.rs1 ≡ 0) × (i.rs2 ≡ 0) × (i.write ≡ false) × (i.use_imm ≡ false) × NoImm i × (i.target ≡ 0)
-  pub sha : i.op ≡ 40 → (i.rs2 ≡ 0) × (i.write ≡ false) × (i.use_imm ≡ false) × NoImm i × (i.target ≡ 0)
-  pub terminate : i.op ≡ 41 → (i.rd ≡ 0) × (i.rs1 ≡ 0) × (i.rs2 ≡ 0) × (i.write ≡ false) × (i.use_imm ≡ false) × ExitCode i × (i.target ≡ 0)
+  pub hint : i.op ≡ HINT → (i.rs1 ≡ 0) × (i.rs2 ≡ 0) × (i.write ≡ false) × (i.use_imm ≡ false) × (i.target ≡ 0)
+  pub reveal : i.op ≡ REVEAL → (i.rs2 ≡ 0) × (i.write ≡ false) × (i.use_imm ≡ false) × (i.target ≡ 0)
+  pub nop : i.op ≡ NOP → (i.rd ≡ 0) × (i.rs1 ≡ 0) × (i.rs2 ≡ 0) × (i.write ≡ false) × (i.use_imm ≡ false) × NoImm i × (i.target ≡ 0)
+  pub sha : i.op ≡ SHA → (i.rs2 ≡ 0) × (i.write ≡ false) × (i.use_imm ≡ false) × NoImm i × (i.target ≡ 0)
+  pub terminate : i.op ≡ TERMINATE → (i.rd ≡ 0) × (i.rs1 ≡ 0) × (i.rs2 ≡ 0) × (i.write ≡ false) × (i.use_imm ≡ false) × ExitCode i × (i.target ≡ 0)
 
 -- the numbers of an instruction in range
 pub record IsInstruction (numbers : List ℕ) : Type 0 where

@@ -1,11 +1,32 @@
--- What next_access_of says of the meanings. Each law is the contract of a function in src/laws.rt.
-use Rattle.std.specs.Prelude.{◌≡◌, ℕ, ◌↔◌, List, ◌++◌, length, Some, None, slice_get}
+-- What next_access_of says of the meanings, and the constants. Each law is the contract of a function in src/laws.rt.
+use Rattle.std.specs.Prelude.{◌≡◌, ℕ, ◌↔◌, List, [], ◌∷◌, ◌++◌, length, Some, None, slice_get}
 use Rattle.vm_isa.specs.declared.instr.VmInstr.{VmInstr}
 use Rattle.vm_isa.specs.declared.meaning.NextAccess.TheVariants.{NoMeaning, At, Done}
 use Rattle.std.specs.List.{AllByRecursion}
+use Rattle.vm_isa.specs.declared.opcode.TheConstants as code
+use Rattle.vm_isa.specs.declared.space.TheConstants as spaces
+use Rattle.vm_isa.specs.declared.accesses.TheConstants.{MAX_ACCESSES}
+use Rattle.vm_isa.specs.Opcodes.{ADD, SUB, XOR, OR, AND, SLT, SLTU, SLL, SRL, SRA, LB, LH, LW, LBU, LHU, SB, SH, SW, BEQ, BNE, BLT, BLTU, BGE, BGEU, JAL, LUI, JALR, AUIPC, MUL, MULH, MULHSU, MULHU, DIV, DIVU, REM, REMU, HINT, REVEAL, NOP, SHA, TERMINATE, GREATEST}
+use Rattle.vm_isa.specs.Spaces.{REGISTERS, MEMORY, PUBLIC}
 use Rattle.vm_isa.specs.Words.{IsWord}
 use Rattle.vm_isa.specs.Instr.{InRange}
 use Rattle.vm_isa.specs.Means.{Accessed, Meaning, means_of, next_access_of}
+
+-- the constants of the code are the numbers of the definitions
+pub record ConstantsAreTheNumbers : Type 0 where
+  pub opcodes : code.ADD ∷ code.SUB ∷ code.XOR ∷ code.OR ∷ code.AND ∷ code.SLT ∷ code.SLTU ∷ code.SLL ∷ code.SRL ∷ code.SRA
+      ∷ code.LB ∷ code.LH ∷ code.LW ∷ code.LBU ∷ code.LHU ∷ code.SB ∷ code.SH ∷ code.SW
+      ∷ code.BEQ ∷ code.BNE ∷ code.BLT ∷ code.BLTU ∷ code.BGE ∷ code.BGEU ∷ code.JAL ∷ code.LUI ∷ code.JALR ∷ code.AUIPC
+      ∷ code.MUL ∷ code.MULH ∷ code.MULHSU ∷ code.MULHU ∷ code.DIV ∷ code.DIVU ∷ code.REM ∷ code.REMU
+      ∷ code.HINT ∷ code.REVEAL ∷ code.NOP ∷ code.SHA ∷ code.TERMINATE ∷ []
+      ≡ ADD ∷ SUB ∷ XOR ∷ OR ∷ AND ∷ SLT ∷ SLTU ∷ SLL ∷ SRL ∷ SRA
+      ∷ LB ∷ LH ∷ LW ∷ LBU ∷ LHU ∷ SB ∷ SH ∷ SW
+      ∷ BEQ ∷ BNE ∷ BLT ∷ BLTU ∷ BGE ∷ BGEU ∷ JAL ∷ LUI ∷ JALR ∷ AUIPC
+      ∷ MUL ∷ MULH ∷ MULHSU ∷ MULHU ∷ DIV ∷ DIVU ∷ REM ∷ REMU
+      ∷ HINT ∷ REVEAL ∷ NOP ∷ SHA ∷ TERMINATE ∷ []
+  pub greatest : code.GREATEST ≡ GREATEST
+  pub spaces : spaces.REGISTERS ∷ spaces.MEMORY ∷ spaces.PUBLIC ∷ [] ≡ REGISTERS ∷ MEMORY ∷ PUBLIC ∷ []
+  pub accesses : MAX_ACCESSES ≡ 64
 
 -- after NoMeaning no further words make a meaning
 abbrev pub NoMeaningIsFinal : Type 0

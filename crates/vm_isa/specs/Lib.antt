@@ -1,6 +1,7 @@
 pub mod Words
 pub mod Opcodes
 pub mod Slots
+pub mod Spaces
 pub mod Instr
 pub mod Results
 pub mod Means

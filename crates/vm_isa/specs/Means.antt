@@ -12,9 +12,10 @@ use Rattle.vm_isa.specs.declared.meaning.Place.{Place}
 use Rattle.vm_isa.specs.declared.meaning.NextAccess.{NextAccess}
 use Rattle.vm_isa.specs.declared.meaning.NextAccess.TheVariants.{NoMeaning, At, Done}
 use Rattle.vm_isa.specs.Words.{IsWord}
-use Rattle.vm_isa.specs.Opcodes.{is_from, is_alu, is_load, is_store, is_branch, is_upper, is_mul}
-use Rattle.vm_isa.specs.Results.{alu, mul_div, is_taken, width_of, extended, number_in, with_low}
+use Rattle.vm_isa.specs.Opcodes.{is_load, is_store, is_branch, is_upper, is_register, has_meaning, JAL, LUI, JALR, AUIPC, HINT, REVEAL, SHA}
+use Rattle.vm_isa.specs.Results.{result, is_taken, width_of, extended, number_in, with_low}
 use Rattle.vm_isa.specs.Slots.{slots_of}
+use Rattle.vm_isa.specs.Spaces.{REGISTERS, MEMORY, PUBLIC}
 use Rattle.vm_isa.specs.Instr.{InRange}
 
 -- one access of a meaning
@@ -73,10 +74,13 @@ abbrev pub place : ℕ → ℕ → ℕ → Place
 place slot space pointer = record { slot = slot; space = space; pointer = pointer }
 
 abbrev pub register : ℕ → ℕ → Place
-register slot number = place slot 1 (4 * number)
+register slot number = place slot REGISTERS (4 * number)
 
 abbrev pub memory : ℕ → ℕ → Place
-memory slot pointer = place slot 2 pointer
+memory slot pointer = place slot MEMORY pointer
+
+abbrev pub public : ℕ → ℕ → Place
+public slot pointer = place slot PUBLIC pointer
 
 -- words one after another. Pointers wrap; a meaning has none that does, as a SHA block's words begin
 -- below 2 ^ 29.
@@ -89,7 +93,7 @@ sha_places i b c = register 0 i.rd ∷ register 1 i.rs1 ∷ (memory_from 2 c 16 
 -- the accesses in order, where b and c are the words of the first two
 unfoldable pub places_by : VmInstr → ℕ → ℕ → List Place
 places_by i b c =
-    if is_alu i.op || is_mul i.op then
+    if is_register i.op then
     (if i.use_imm then register 0 i.rs1 ∷ register 2 i.rd ∷ []
     else register 0 i.rs1 ∷ register 1 i.rs2 ∷ register 2 i.rd ∷ [])
     else if is_load i.op then
@@ -97,12 +101,12 @@ places_by i b c =
     else register 0 i.rs1 ∷ memory 1 (block_address i b) ∷ [])
     else if is_store i.op then register 0 i.rs1 ∷ register 1 i.rs2 ∷ memory 2 (block_address i b) ∷ []
     else if is_branch i.op then register 0 i.rs1 ∷ register 1 i.rs2 ∷ []
-    else if nat_eq i.op 25 then (if i.write then register 0 i.rd ∷ [] else [])
+    else if nat_eq i.op JAL then (if i.write then register 0 i.rd ∷ [] else [])
     else if is_upper i.op then register 0 i.rd ∷ []
-    else if nat_eq i.op 27 then (if i.write then register 0 i.rs1 ∷ register 1 i.rd ∷ [] else register 0 i.rs1 ∷ [])
-    else if nat_eq i.op 37 then register 0 i.rd ∷ memory 1 (address i b) ∷ []
-    else if nat_eq i.op 38 then register 0 i.rd ∷ register 1 i.rs1 ∷ place 2 3 (address i b) ∷ []
-    else if nat_eq i.op 40 then sha_places i b c
+    else if nat_eq i.op JALR then (if i.write then register 0 i.rs1 ∷ register 1 i.rd ∷ [] else register 0 i.rs1 ∷ [])
+    else if nat_eq i.op HINT then register 0 i.rd ∷ memory 1 (address i b) ∷ []
+    else if nat_eq i.op REVEAL then register 0 i.rd ∷ register 1 i.rs1 ∷ public 2 (address i b) ∷ []
+    else if nat_eq i.op SHA then sha_places i b c
     else []
 
 abbrev pub places_of : VmInstr → List (List ℕ) → List Place
@@ -110,7 +114,7 @@ places_of i olds = places_by i (word_at olds 0) (word_at olds 1)
 
 -- the slot of access `number`: an immediate takes the place of access 1, and leaves its slot free
 unfoldable pub slot_at : VmInstr → ℕ → ℕ
-slot_at i number = if (is_alu i.op || is_mul i.op) && (i.use_imm && nat_eq number 1) then 2 else number
+slot_at i number = if is_register i.op && (i.use_imm && nat_eq number 1) then 2 else number
 
 -- ---- what the accesses leave, and the next pc
 
@@ -118,24 +122,23 @@ slot_at i number = if (is_alu i.op || is_mul i.op) && (i.use_imm && nat_eq numbe
 -- word that the host gives, which HINT alone stores.
 unfoldable pub new_at : VmInstr → List (List ℕ) → List ℕ → ℕ → List ℕ → List ℕ
 new_at i olds given slot old =
-    if is_alu i.op && nat_eq slot 2 then limbs_of (alu i.op (word_at olds 0) (operand i (word_at olds 1)))
-    else if is_mul i.op && nat_eq slot 2 then limbs_of (mul_div i.op (word_at olds 0) (operand i (word_at olds 1)))
+    if is_register i.op && nat_eq slot 2 then limbs_of (result i.op (word_at olds 0) (operand i (word_at olds 1)))
     else if is_load i.op && nat_eq slot 2 then limbs_of (extended i.op (number_in (block_at olds 1) (in_block i (word_at olds 0)) (width_of i.op)))
     else if is_store i.op && nat_eq slot 2 then with_low old (in_block i (word_at olds 0)) (width_of i.op) (block_at olds 1)
-    else if nat_eq i.op 25 && nat_eq slot 0 then limbs_of (after i)
-    else if nat_eq i.op 26 && nat_eq slot 0 then i.imm
-    else if nat_eq i.op 27 && nat_eq slot 1 then limbs_of (after i)
-    else if nat_eq i.op 28 && nat_eq slot 0 then limbs_of (word_sum i.pc (imm_of i))
-    else if nat_eq i.op 37 && nat_eq slot 1 then given
-    else if nat_eq i.op 38 && nat_eq slot 2 then block_at olds 1
-    else if nat_eq i.op 40 && nat_le 18 slot then limbs_of (slice_index (compressed olds) (slot - 18))
+    else if nat_eq i.op JAL && nat_eq slot 0 then limbs_of (after i)
+    else if nat_eq i.op LUI && nat_eq slot 0 then i.imm
+    else if nat_eq i.op JALR && nat_eq slot 1 then limbs_of (after i)
+    else if nat_eq i.op AUIPC && nat_eq slot 0 then limbs_of (word_sum i.pc (imm_of i))
+    else if nat_eq i.op HINT && nat_eq slot 1 then given
+    else if nat_eq i.op REVEAL && nat_eq slot 2 then block_at olds 1
+    else if nat_eq i.op SHA && nat_le 18 slot then limbs_of (slice_index (compressed olds) (slot - 18))
     else old
 
 unfoldable pub next_of : VmInstr → List (List ℕ) → ℕ
 next_of i olds =
     if is_branch i.op then (if is_taken i.op (word_at olds 0) (word_at olds 1) then i.target else after i)
-    else if nat_eq i.op 25 then i.target
-    else if nat_eq i.op 27 then jalr_target i (word_at olds 0)
+    else if nat_eq i.op JAL then i.target
+    else if nat_eq i.op JALR then jalr_target i (word_at olds 0)
     else after i
 
 -- the new word of access `number`, if that is an access of the meaning
@@ -159,18 +162,18 @@ known olds number test = test && nat_lt number (length olds)
 unfoldable pub bars_first : VmInstr → ℕ → Bool
 bars_first i b =
     if is_load i.op || is_store i.op then is_bad (width_of i.op) (address i b)
-    else if nat_eq i.op 27 then is_high (jalr_target i b)
-    else if nat_eq i.op 37 || nat_eq i.op 38 then is_bad 4 (address i b)
-    else nat_eq i.op 40 && is_high b
+    else if nat_eq i.op JALR then is_high (jalr_target i b)
+    else if nat_eq i.op HINT || nat_eq i.op REVEAL then is_bad 4 (address i b)
+    else nat_eq i.op SHA && is_high b
 
 -- a second one
 unfoldable pub bars_second : VmInstr → ℕ → Bool
-bars_second i c = nat_eq i.op 40 && is_high c
+bars_second i c = nat_eq i.op SHA && is_high c
 
 -- The words so far show that there is no meaning. What is no opcode has none, nor has TERMINATE.
 unfoldable pub is_refused : VmInstr → List (List ℕ) → Bool
 is_refused i olds =
-    not (is_from 1 40 i.op) || (known olds 0 (bars_first i (word_at olds 0)) || known olds 1 (bars_second i (word_at olds 1)))
+    not (has_meaning i.op) || (known olds 0 (bars_first i (word_at olds 0)) || known olds 1 (bars_second i (word_at olds 1)))
 
 -- ---- the meaning
 

@@ -1,12 +1,12 @@
 -- The slots of an opcode.
 use Rattle.std.specs.Prelude.{ℕ, ◌||◌, nat_eq, if◌then◌else◌}
-use Rattle.vm_isa.specs.Opcodes.{is_from}
+use Rattle.vm_isa.specs.Opcodes.{is_from, ADD, SW, BEQ, BGEU, JAL, LUI, JALR, AUIPC, MUL, REMU, HINT, REVEAL, NOP, SHA}
 
 -- a step of an opcode goes on by this many; TERMINATE and what is no opcode have none
 abbrev pub slots_of : ℕ → ℕ
 slots_of op =
-    if is_from 1 18 op || (is_from 29 36 op || nat_eq op 38) then 3
-    else if is_from 19 24 op || (nat_eq op 27 || nat_eq op 37) then 2
-    else if is_from 25 26 op || (nat_eq op 28 || nat_eq op 39) then 1
-    else if nat_eq op 40 then 26
+    if is_from ADD SW op || (is_from MUL REMU op || nat_eq op REVEAL) then 3
+    else if is_from BEQ BGEU op || (nat_eq op JALR || nat_eq op HINT) then 2
+    else if is_from JAL LUI op || (nat_eq op AUIPC || nat_eq op NOP) then 1
+    else if nat_eq op SHA then 26
     else 0

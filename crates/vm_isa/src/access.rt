@@ -3,7 +3,7 @@
 /// A block, its word before the access and its word after.
 #[derive(Clone, Copy, Debug, PartialEq, Eq)]
 pub struct Access {
-    /// 1 for registers, 2 for memory, 3 for the public bytes.
+    /// One of `space`.
     pub space: u8,
     pub pointer: u32,
     pub old: [u8; 4],

@@ -1,5 +1,10 @@
-//! What `next_access` says of the meanings. Each function is empty: its contract is the law.
-ghost use Rattle.vm_isa.specs.Laws.{DoneIsAMeaning, ElseMeaningIsLeft, NextIsTheMeanings, NoMeaningIsFinal};
+//! What `next_access` says of the meanings, and the constants. Each function is empty: its contract is the law.
+ghost use Rattle.vm_isa.specs.Laws.{ConstantsAreTheNumbers, DoneIsAMeaning, ElseMeaningIsLeft, NextIsTheMeanings, NoMeaningIsFinal};
+
+/// The opcodes, the spaces and the greatest number of accesses are those of the definitions.
+pub fn constants_are_the_numbers()
+    ensures { ConstantsAreTheNumbers }
+{}
 
 /// After `NoMeaning` no further words make a meaning.
 #[tactic(auto, using(crate::proofs::NextLaws::no_meaning_is_final))]

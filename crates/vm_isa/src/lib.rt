@@ -10,6 +10,7 @@ mod meaning;
 pub mod opcode;
 mod record;
 mod results;
+pub mod space;
 #[cfg(test)]
 mod tests;
 mod writes;

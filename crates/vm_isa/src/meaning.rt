@@ -1,11 +1,11 @@
 //! What an instruction means, from the old words of its accesses.
 
 ghost use Rattle.std.specs.Prelude.{◌≡◌, ℕ, ◌<◌, List, length};
-ghost use Rattle.vm_isa.specs.Means.{Meaning, address, bars_first, imm_of, in_places, is_bad, is_high, is_refused as is_refused_of, jalr_target, means_of, memory, next_access_of, next_of, place, places_of, register, sha_places, word_at};
+ghost use Rattle.vm_isa.specs.Means.{Meaning, address, bars_first, imm_of, in_places, is_bad, is_high, is_refused as is_refused_of, jalr_target, means_of, memory, next_access_of, next_of, places_of, public, register, sha_places, word_at};
 
-use crate::VmInstr;
 use crate::opcode::*;
 use crate::results::{is_taken, width};
+use crate::{VmInstr, space};
 use vm_word::of_limbs;
 
 /// Where an access is.
@@ -122,8 +122,7 @@ fn bars_first(instr: &VmInstr, first: u32) -> bool
 fn is_refused(instr: &VmInstr, old: &[[u8; 4]]) -> bool
     ensures { result ≡ is_refused_of instr.now old.now }
 {
-    instr.op == 0
-        || instr.op > SHA
+    !has_meaning(instr.op)
         || !old.is_empty() && bars_first(instr, word_at(old, 0))
         || old.len() > 1 && instr.op == SHA && is_high(word_at(old, 1))
 }
@@ -133,7 +132,7 @@ fn register(slot: u32, number: u8) -> Place
 {
     Place {
         slot,
-        space: 1,
+        space: space::REGISTERS,
         pointer: 4 * number as u32,
     }
 }
@@ -143,7 +142,7 @@ fn memory(slot: u32, pointer: u32) -> Place
 {
     Place {
         slot,
-        space: 2,
+        space: space::MEMORY,
         pointer,
     }
 }
@@ -194,11 +193,11 @@ fn next_place(instr: &VmInstr, old: &[[u8; 4]]) -> NextAccess
 }
 
 fn public(slot: u32, pointer: u32) -> Place
-    ensures { result ≡ place slot 3 pointer }
+    ensures { result ≡ public slot pointer }
 {
     Place {
         slot,
-        space: 3,
+        space: space::PUBLIC,
         pointer,
     }
 }
@@ -225,7 +224,7 @@ fn next_of_sha(instr: &VmInstr, old: &[[u8; 4]]) -> NextAccess
     };
     NextAccess::At {
         slot,
-        space: 2,
+        space: space::MEMORY,
         pointer,
     }
 }

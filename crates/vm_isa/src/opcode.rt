@@ -1,6 +1,7 @@
 //! The opcodes of program rows.
 
 ghost use Rattle.std.specs.Prelude.{◌≡◌};
+ghost use Rattle.vm_isa.specs.Opcodes.{has_meaning as has_meaning_of};
 ghost use Rattle.vm_isa.specs.Slots.{slots_of};
 
 pub const ADD: u8 = 1;
@@ -85,6 +86,16 @@ pub const NOP: u8 = 39;
 pub const SHA: u8 = 40;
 /// Ends the program with an exit code.
 pub const TERMINATE: u8 = 41;
+
+/// The greatest opcode.
+pub const GREATEST: u8 = TERMINATE;
+
+/// Whether an opcode is one of steps: all but TERMINATE are, and what is no opcode isn't.
+pub fn has_meaning(op: u8) -> bool
+    ensures { result ≡ has_meaning_of op }
+{
+    op >= ADD && op <= SHA
+}
 
 /// The slots of an opcode: its step at time t has its accesses at t and after, and the next step is
 /// at t plus the slots. TERMINATE, which is no step, and what is no opcode have none.

@@ -2,7 +2,7 @@
 
 ghost use Rattle.std.specs.Prelude.{◌≡◌, ◌+◌, ◌<◌, ◌≤◌, IsTrue};
 ghost use Rattle.vm_isa.specs.Opcodes.{is_load};
-ghost use Rattle.vm_isa.specs.Results.{alu as alu_of, mul_div as mul_div_of, is_taken as is_taken_of, width_of, extended, number_in, with_low};
+ghost use Rattle.vm_isa.specs.Results.{alu as alu_of, mul_div as mul_div_of, result as result_of, is_taken as is_taken_of, width_of, extended, number_in, with_low};
 
 use crate::opcode::*;
 use vm_word::arithmetic::{
@@ -12,9 +12,9 @@ use vm_word::arithmetic::{
 };
 use vm_word::of_limbs;
 
-/// The result of an opcode from ADD to SRA.
+// The result of an opcode from ADD to SRA.
 #[tactic(auto, unfolding(crate::specs::Results::alu))]
-pub fn alu(op: u8, a: u32, b: u32) -> u32
+fn alu(op: u8, a: u32, b: u32) -> u32
     ensures { result ≡ alu_of op a b }
 {
     match op {
@@ -31,9 +31,9 @@ pub fn alu(op: u8, a: u32, b: u32) -> u32
     }
 }
 
-/// The result of an opcode from MUL to REMU.
+// The result of an opcode from MUL to REMU.
 #[tactic(auto, unfolding(crate::specs::Results::mul_div))]
-pub fn mul_div(op: u8, a: u32, b: u32) -> u32
+fn mul_div(op: u8, a: u32, b: u32) -> u32
     ensures { result ≡ mul_div_of op a b }
 {
     match op {
@@ -45,6 +45,17 @@ pub fn mul_div(op: u8, a: u32, b: u32) -> u32
         DIVU => divide(a, b),
         REM => remainder_signed(a, b),
         _ => remainder(a, b),
+    }
+}
+
+/// The word that an opcode of the register form makes of two.
+#[tactic(auto, unfolding(crate::specs::Results::result))]
+pub fn result(op: u8, a: u32, b: u32) -> u32
+    ensures { result ≡ result_of op a b }
+{
+    match op {
+        ADD..=SRA => alu(op, a, b),
+        _ => mul_div(op, a, b),
     }
 }
 

@@ -21,21 +21,6 @@ const SLOTS: [(u8, u8, u32); 12] = [
     (41, 255, 0),
 ];
 
-/// The instructions in the order in which they are numbered, from 1 on.
-const IN_ORDER: [u8; 41] = [
-    ADD, SUB, XOR, OR, AND, SLT, SLTU, SLL, SRL, SRA, LB, LH, LW, LBU, LHU, SB, SH, SW, BEQ, BNE,
-    BLT, BLTU, BGE, BGEU, JAL, LUI, JALR, AUIPC, MUL, MULH, MULHSU, MULHU, DIV, DIVU, REM, REMU,
-    HINT, REVEAL, NOP, SHA, TERMINATE,
-];
-
-#[test]
-fn opcodes_in_order(rt: HostRuntime) -> Result<(), Fail> {
-    for (place, op) in IN_ORDER.iter().enumerate() {
-        assert_eq!(rt; *op as usize, place + 1);
-    }
-    Ok(())
-}
-
 #[test]
 fn slots_of_every_opcode(rt: HostRuntime) -> Result<(), Fail> {
     for (first, last, wanted) in &SLOTS {

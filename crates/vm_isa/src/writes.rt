@@ -8,7 +8,7 @@ ghost use Rattle.vm_isa.specs.Means.{HasNew, Meaning, compressed as compressed_o
 use crate::VmInstr;
 use crate::meaning::{NextAccess, address, immediate, word_at};
 use crate::opcode::*;
-use crate::results::{alu, loaded, mul_div, stored};
+use crate::results::{loaded, result, stored};
 use sha_words::compress;
 use vm_word::{limbs, of_limbs};
 
@@ -60,8 +60,9 @@ fn new_at(instr: &VmInstr, old: &[[u8; 4]], given: [u8; 4], slot: u32, block: [u
     let first = word_at(old, 0);
     let in_block = (address(instr, first) % 4) as usize;
     match op {
-        ADD..=SRA if slot == 2 => limbs(alu(op, first, operand(instr, word_at(old, 1)))),
-        MUL..=REMU if slot == 2 => limbs(mul_div(op, first, operand(instr, word_at(old, 1)))),
+        ADD..=SRA | MUL..=REMU if slot == 2 => {
+            limbs(result(op, first, operand(instr, word_at(old, 1))))
+        }
         LB..=LHU if slot == 2 => limbs(loaded(op, old[1], in_block)),
         SB..=SW if slot == 2 => stored(op, block, in_block, old[1]),
         JAL if slot == 0 => limbs(instr.pc.wrapping_add(4)),

@@ -15,7 +15,7 @@ use Rattle.rv_run.specs.Step.{register, goes, goes_on, obstacle, performed, put}
 use Rattle.rv_run.specs.Step.{alu as alu_by, mul_div as mul_div_by}
 use Rattle.vm_isa.specs.declared.instr.VmInstr.{VmInstr}
 use Rattle.vm_isa.specs.declared.opcode.TheConstants.{LUI, AUIPC}
-use Rattle.vm_isa.specs.Results.{alu, mul_div}
+use Rattle.vm_isa.specs.Results.{alu, mul_div, result}
 use Rattle.vm_isa.specs.Means.{is_refused, bars_first, bars_second, imm_of, new_at, next_of, places_by, word_at}
 use Rattle.vm_isa.specs.Blocks.{VmState}
 use Rattle.vm_isa.proofs.Shapes.{forced0, can0, after0}
@@ -40,17 +40,17 @@ abbrev upper_row : ℕ → ℕ → ℕ → ℕ → VmInstr
 upper_row pc op rd imm = record (bare pc op) { rd = rd; write = true; imm = limbs_of imm }
 
 alu_makes : (op : AluOp) (pc rd rs1 rs2 : ℕ) → Makes3 (alu_row pc op rd rs1 rs2) pc rd rs1 rs2 (alu_by op)
-unfolding places_by new_at next_of is_refused bars_first bars_second alu word_at
+unfolding places_by new_at next_of is_refused bars_first bars_second result alu word_at
 alu_makes Add pc rd rs1 rs2 = record { places = λ b c. refl; keep0 = λ o g x. refl; keep1 = λ o g x. refl; new = λ x y z g. refl; next = λ o. refl; fits = λ x y z. refl; used = refl }
 alu_makes _ pc rd rs1 rs2 = record { places = λ b c. refl; keep0 = λ o g x. refl; keep1 = λ o g x. refl; new = λ x y z g. refl; next = λ o. refl; fits = λ x y z. refl; used = refl }
 
 mul_makes : (op : MulDivOp) (pc rd rs1 rs2 : ℕ) → Makes3 (mul_row pc op rd rs1 rs2) pc rd rs1 rs2 (mul_div_by op)
-unfolding places_by new_at next_of is_refused bars_first bars_second mul_div word_at
+unfolding places_by new_at next_of is_refused bars_first bars_second result mul_div word_at
 mul_makes Mul pc rd rs1 rs2 = record { places = λ b c. refl; keep0 = λ o g x. refl; keep1 = λ o g x. refl; new = λ x y z g. refl; next = λ o. refl; fits = λ x y z. refl; used = refl }
 mul_makes _ pc rd rs1 rs2 = record { places = λ b c. refl; keep0 = λ o g x. refl; keep1 = λ o g x. refl; new = λ x y z g. refl; next = λ o. refl; fits = λ x y z. refl; used = refl }
 
 imm_makes : (op : AluOp) (pc rd rs1 imm : ℕ) → Makes2 (imm_row pc op rd rs1 imm) pc rd rs1 (λ a. alu_by op a (word_of_limbs (limbs_of imm)))
-unfolding places_by new_at next_of is_refused bars_first bars_second alu word_at imm_of
+unfolding places_by new_at next_of is_refused bars_first bars_second result alu word_at imm_of
 imm_makes Add pc rd rs1 imm = record { places = λ b c. refl; keep = λ o g x. refl; new = λ x z g. refl; next = λ o. refl; fits = λ x z. refl; used = refl }
 imm_makes _ pc rd rs1 imm = record { places = λ b c. refl; keep = λ o g x. refl; new = λ x z g. refl; next = λ o. refl; fits = λ x z. refl; used = refl }
 

@@ -13,7 +13,7 @@ use Rattle.rv_decode.specs.declared.instr.MulDivOp.TheVariants.{Mul, Mulh, Mulhs
 use Rattle.rv_decode.specs.declared.instr.StoreKind.{StoreKind}
 use Rattle.rv_decode.specs.declared.instr.StoreKind.TheVariants.{Sb, Sh, Sw}
 use Rattle.vm_isa.specs.declared.instr.VmInstr.{VmInstr}
-use Rattle.vm_isa.specs.declared.opcode.TheConstants.{ADD, SUB, XOR, OR, AND, SLT, SLTU, SLL, SRL, SRA, LB, LH, LW, LBU, LHU, SB, SH, SW, BEQ, BNE, BLT, BLTU, BGE, BGEU, JAL, LUI, JALR, AUIPC, MUL, MULH, MULHSU, MULHU, DIV, DIVU, REM, REMU, HINT, REVEAL, NOP, SHA, TERMINATE}
+use Rattle.vm_isa.specs.Opcodes.{ADD, SUB, XOR, OR, AND, SLT, SLTU, SLL, SRL, SRA, LB, LH, LW, LBU, LHU, SB, SH, SW, BEQ, BNE, BLT, BLTU, BGE, BGEU, JAL, LUI, JALR, AUIPC, MUL, MULH, MULHSU, MULHU, DIV, DIVU, REM, REMU, HINT, REVEAL, NOP, SHA, TERMINATE}
 use Rattle.vm_word.specs.Arithmetic.{word_sum}
 use Rattle.vm_word.specs.Word.{limbs_of}
 

@@ -4,6 +4,7 @@ use Rattle.vm_word.specs.Word.{limbs_of}
 use Rattle.rv_run.specs.Machine.{Machine}
 use Rattle.rv_run.specs.Step.{register}
 use Rattle.vm_isa.specs.Words.{IsBytes}
+use Rattle.vm_isa.specs.Spaces.{REGISTERS, MEMORY, PUBLIC}
 use Rattle.vm_isa.specs.Blocks.{VmState}
 
 -- what a state of the manual's machine always is
@@ -21,11 +22,11 @@ pub record IsMachine (m : Machine) : Type 0 where
 abbrev pub memory_block : (ℕ → ℕ) → ℕ → List ℕ
 memory_block memory q = memory q ∷ memory (q + 1) ∷ memory (q + 2) ∷ memory (q + 3) ∷ []
 
--- Register r is the block (1, 4 * r), the bytes from q on are the block (2, q) for each q that is a
--- multiple of 4, and the public bytes from 4 * j on are the block (3, 4 * j).
+-- Register r is the block at 4 * r, the bytes from q on are the block at q for each q that is a
+-- multiple of 4, and the public bytes from 4 * j on are the block at 4 * j, each in its space.
 pub record Same (m : Machine) (s : VmState) : Type 0 where
   pub pc : s.pc ≡ m.pc
-  pub registers : (r : ℕ) → r < 32 → s.blocks 1 (4 * r) ≡ limbs_of (register m r)
-  pub memory : (q : ℕ) → q % 4 ≡ 0 → q < 2 ^ 29 → s.blocks 2 q ≡ memory_block m.memory q
-  pub public_bytes : (j : ℕ) → j < 16 → s.blocks 3 (4 * j) ≡ take 4 (drop (4 * j) m.public_bytes)
+  pub registers : (r : ℕ) → r < 32 → s.blocks REGISTERS (4 * r) ≡ limbs_of (register m r)
+  pub memory : (q : ℕ) → q % 4 ≡ 0 → q < 2 ^ 29 → s.blocks MEMORY q ≡ memory_block m.memory q
+  pub public_bytes : (j : ℕ) → j < 16 → s.blocks PUBLIC (4 * j) ≡ take 4 (drop (4 * j) m.public_bytes)
   pub hints : s.hints ≡ m.hints

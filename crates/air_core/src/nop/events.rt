@@ -6,7 +6,7 @@ ghost use Rattle.air_core.specs.Sink.{Handed, HandedSome};
 ghost use Rattle.air_core.specs.Nop.{nop_row, nop_numbers, nop_lines};
 
 use super::columns::{NopRow, op, read, valid};
-use crate::{Event, EventSink, OutOfMemory, hand_counted, path_events};
+use crate::{EventSink, OutOfMemory, emit_path};
 use vm_field::Fe;
 
 /// The program row.
@@ -21,18 +21,13 @@ fn numbers(r: &NopRow) -> [Fe; 12]
 }
 
 #[tactic(auto, unfolding(crate::specs::Nop::nop_lines))]
-fn lines(r: &NopRow) -> [Event; 3]
-    ensures { result ≡ nop_lines r.now }
-{
-    let next = r.pc.add(Fe::of_u16(4));
-    path_events(valid(r), r.pc, r.time, next, 1, &numbers(r))
-}
-
 pub fn events<S: EventSink>(row: &[Fe], sink: &mut S) -> Result<(), OutOfMemory>
     requires wide { length row.now ≡ 3 }
     requires room { 256 ≤ S.room sink.old }
     ensures ok { OnOk result (Handed S.holds S.room sink.old sink.new (counted (nop_lines (nop_row row.now)))) }
     ensures err { OnErr result (HandedSome S.holds S.room sink.old sink.new (counted (nop_lines (nop_row row.now)))) }
 {
-    hand_counted(&lines(&read(row)), sink)
+    let r = read(row);
+    let next = r.pc.add(Fe::of_u16(4));
+    emit_path(valid(&r), r.pc, r.time, next, 1, &numbers(&r), sink)
 }

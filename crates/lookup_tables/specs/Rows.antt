@@ -1,0 +1,21 @@
+-- The rows of the lookup tables as functions of their places.
+use Rattle.std.specs.Prelude.{ℕ, zero, suc, ◌+◌, ◌-◌, ◌/◌, ◌%◌, ◌^◌, nat_eq, nat_le, if◌then◌else◌, List, [], ◌∷◌, bit_xor}
+use Rattle.sha_words.specs.Sha256.{round_constant}
+
+-- the greatest exponent up to this one whose power of two is at most the number, and 0 where there is none
+abbrev pub exponent_up_to : ℕ → ℕ → ℕ
+exponent_up_to zero number = 0
+exponent_up_to (suc n) number = if nat_le (2 ^ suc n) number then suc n else exponent_up_to n number
+
+abbrev pub xor_row_of : ℕ → List ℕ
+xor_row_of place = (place / 256) ∷ (place % 256) ∷ bit_xor (place / 256) (place % 256) ∷ []
+
+abbrev pub range_row_of : ℕ → List ℕ
+range_row_of place = (place + 1 - 2 ^ exponent_up_to 16 (place + 1)) ∷ exponent_up_to 16 (place + 1) ∷ []
+
+abbrev pub constant_row_of : ℕ → List ℕ
+constant_row_of place = place ∷ (round_constant place % 65536) ∷ (round_constant place / 65536) ∷ []
+
+-- the row at a place of the table of a bus
+unfoldable pub row_at : ℕ → ℕ → List ℕ
+row_at bus place = if nat_eq bus 3 then xor_row_of place else if nat_eq bus 4 then range_row_of place else constant_row_of place
