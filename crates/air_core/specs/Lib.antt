@@ -25,4 +25,3 @@ pub mod ExtensionLaws
 pub mod PartLemmas
 pub mod JoinLaws
 pub mod SingleLaws
-pub mod Contents
