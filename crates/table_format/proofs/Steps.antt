@@ -12,7 +12,8 @@ use Rattle.vm_host.specs.Calls.{Rose}
 use Rattle.vm_host.specs.ReadUpTo.{Took}
 use Rattle.vm_host.proofs.Reading.{took_none, took_both}
 use Rattle.table_format.specs.declared.TableError.{TableError}
-use Rattle.table_format.specs.declared.TableError.TheVariants.{Refused, Fault, OutOfMemory}
+use Rattle.table_format.specs.declared.TableError.TheVariants.{Refused, Host}
+use Rattle.vm_host.specs.declared.HostError.TheVariants.{Failed, OutOfMemory}
 use Rattle.table_format.specs.Reading.{Gives}
 use Rattle.table_format.proofs.Texts.{Once, fixed_once}
 
@@ -35,7 +36,7 @@ rose_later a b c le rose = omega arith
 
 -- an error that is known
 pub gives_error : {V W : Type 0} (view : V → W) (Good : W → Type 0) (text : W → List ℕ) (s t : HostState) (bytes : List ℕ) (e : TableError) (result : Result V TableError)
-    → Took Second s t bytes → (e ≡ Refused → (w : W) (more : List ℕ) → Good w → (s.input Second).rest ≡ Some (text w ++ more) → ⊥) → (e ≡ Fault → Rose s.faults t.faults)
+    → Took Second s t bytes → (e ≡ Refused → (w : W) (more : List ℕ) → Good w → (s.input Second).rest ≡ Some (text w ++ more) → ⊥) → (e ≡ Host Failed → Rose s.faults t.faults)
     → IsErrAnd result (λ d. d ≡ e) → Gives view Good text s t result
 gives_error view Good text s t bytes e (Ok v) took refused fault is = absurd is
 gives_error view Good text s t bytes e (Err d) took refused fault is = record {
@@ -43,7 +44,7 @@ gives_error view Good text s t bytes e (Err d) took refused fault is = record {
   good = tt;
   exact = tt;
   refused = λ r. let same : d ≡ Refused = cc in refused (sym is ∙ same);
-  fault = λ r. let same : d ≡ Fault = cc in fault (sym is ∙ same);
+  fault = λ r. let same : d ≡ Host Failed = cc in fault (sym is ∙ same);
 }
 
 pub begun_first : {W : Type 0} (Good : W → Type 0) (text : W → List ℕ) (s : HostState) → (s.input Second).is_open ≡ true → Begun Good text (λ _. Unit {0}) text s s []
@@ -84,8 +85,8 @@ begun_refused whole Good text Fits left s t bytes b none =
     gives_error whole Good text s t bytes Refused (Err Refused) b.took (λ r w more good at. none w good (b.narrow w more good at).0) (λ r. absurd cc) refl
 
 pub begun_memory : {U W : Type 0} (whole : U → W) (Good : W → Type 0) (text : W → List ℕ) (Fits : W → Type 0) (left : W → List ℕ) (s t : HostState) (bytes : List ℕ) (result : Result U TableError)
-    → Begun Good text Fits left s t bytes → IsErrAnd result (λ d. d ≡ OutOfMemory) → Gives whole Good text s t result
-begun_memory whole Good text Fits left s t bytes result b is = gives_error whole Good text s t bytes OutOfMemory result b.took (λ r. absurd cc) (λ r. absurd cc) is
+    → Begun Good text Fits left s t bytes → IsErrAnd result (λ d. d ≡ Host OutOfMemory) → Gives whole Good text s t result
+begun_memory whole Good text Fits left s t bytes result b is = gives_error whole Good text s t bytes (Host OutOfMemory) result b.took (λ r. absurd cc) (λ r. absurd cc) is
 
 -- the whole part was read
 pub begun_done : {U W : Type 0} (whole : U → W) (Good : W → Type 0) (text : W → List ℕ) (Fits : W → Type 0) (left : W → List ℕ) (s t : HostState) (bytes : List ℕ) (v : U)

@@ -12,7 +12,8 @@ use Rattle.table_format.specs.declared.Connector.{Connector}
 use Rattle.vm_trace.specs.declared.count.CountEntry.{CountEntry}
 use Rattle.table_format.specs.declared.TableFile.{TableFile}
 use Rattle.table_format.specs.declared.TableError.{TableError}
-use Rattle.table_format.specs.declared.TableError.TheVariants.{Refused, Fault}
+use Rattle.table_format.specs.declared.TableError.TheVariants.{Refused, Host}
+use Rattle.vm_host.specs.declared.HostError.TheVariants.{Failed}
 use Rattle.table_format.specs.Reading.{Gives, Ends, ReadsFile}
 use Rattle.table_format.specs.File.{FileValue, value_of, spelling, head_text, connector_row, row_text, entry_text, number_text, counts_text, height_of, IsFile, IsNumber, IsByte, IsRow, AreRows, AreEntries}
 use Rattle.table_format.proofs.Texts.{Once, number_once, byte_once, row_once, rows_once, entries_once}
@@ -169,7 +170,7 @@ file_no_end m s t u Fits bytes e (Err d) b n is = record {
   end = tt;
   whole = tt;
   refused = λ r v good at. let same : d ≡ Refused = cc in n.refused (ap Err (sym is ∙ same)) (b.narrow v [] good (at ∙ ap Some (sym (append-nil (spelling v))))).1;
-  fault = λ r. let same : d ≡ Fault = cc in rose_later s.faults t.faults u.faults b.took.later (n.fault (ap Err (sym is ∙ same)));
+  fault = λ r. let same : d ≡ Host Failed = cc in rose_later s.faults t.faults u.faults b.took.later (n.fault (ap Err (sym is ∙ same)));
 }
 
 regroup : (a b c d e f g : List ℕ) → (((((([] ++ a) ++ b) ++ c) ++ d) ++ e) ++ f) ++ g ≡ a ++ (b ++ (c ++ (d ++ (e ++ (f ++ g)))))

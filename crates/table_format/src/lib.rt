@@ -2,8 +2,8 @@
 #![tactic(auto)]
 
 ghost use Rattle.std.specs.Prelude.{◌≡◌};
-ghost use Rattle.table_format.specs.declared.TableError.TheVariants.{OutOfMemory};
-ghost use Rattle.table_format.specs.Reading.{error_of};
+ghost use Rattle.table_format.specs.declared.TableError.TheVariants.{Host};
+ghost use Rattle.vm_host.specs.declared.HostError.TheVariants.{OutOfMemory};
 
 pub mod laws;
 mod reader;
@@ -49,37 +49,31 @@ pub enum TableError {
     /// The bytes are no file of this form.
     #[error("the bytes are no table file")]
     Refused,
-    /// A read was refused with a fault.
-    #[error("the input could not be read")]
-    Fault,
-    /// Memory ran out, here or in the host.
-    #[error("out of memory")]
-    OutOfMemory,
+    /// A read was refused, or memory ran out.
+    #[error("{0}")]
+    Host(HostError),
 }
 
 impl From<HostError> for TableError {
-    ghost from_gives = { λ cause error. error ≡ error_of cause };
+    ghost from_gives = { λ cause error. error ≡ Host cause };
 
     fn from(cause: HostError) -> TableError {
-        match cause {
-            HostError::Failed => TableError::Fault,
-            HostError::OutOfMemory => TableError::OutOfMemory,
-        }
+        TableError::Host(cause)
     }
 }
 
 impl From<AllocError> for TableError {
-    ghost from_gives = { λ _ error. error ≡ OutOfMemory };
+    ghost from_gives = { λ _ error. error ≡ Host OutOfMemory };
 
     fn from(_error: AllocError) -> TableError {
-        TableError::OutOfMemory
+        TableError::Host(HostError::OutOfMemory)
     }
 }
 
 impl<T: Drop> From<AllocFailed<T>> for TableError {
-    ghost from_gives = { λ _ error. error ≡ OutOfMemory };
+    ghost from_gives = { λ _ error. error ≡ Host OutOfMemory };
 
     fn from(_error: AllocFailed<T>) -> TableError {
-        TableError::OutOfMemory
+        TableError::Host(HostError::OutOfMemory)
     }
 }

@@ -2,7 +2,7 @@ use crate::{Connector, CountEntry, TableError, TableFile, read_file, spelling};
 use std::alloc::{AllocError, Global};
 use std::test::Fail;
 use vm_field::Fe;
-use vm_host::{Host, MemoryHost, NoFaultHost, Slot};
+use vm_host::{Host, HostError, MemoryHost, NoFaultHost, Slot};
 
 // A program of one word that ends: no rows, and exit code 7.
 const SHORT: [u8; 30] = *b"RVTABLES\0\0\0\0\0\x10\0\0\0\x10\0\0\x01\0\0\0\0\0\0\0\0\x07";
@@ -133,11 +133,11 @@ fn a_fault_is_a_fault(rt: HostRuntime) -> Result<(), Fail> {
         let failing = vec![in alloc; call]?;
         let name = String::from_str(alloc, "tables")?;
         let bytes = SHORT.as_slice().to_vec(alloc)?;
-        let files = vec![in alloc; vm_host::NamedFile { name, bytes }]?;
+        let files = vec![in alloc; vm_host::NamedFile::of(name, bytes)]?;
         let mut host = MemoryHost::new(alloc, files, failing);
         host.open_input(Slot::Second, "tables")?;
         match read_file(alloc, &mut host, 1) {
-            Err(TableError::Fault) => assert!(rt; call < 9, "{call}"),
+            Err(TableError::Host(HostError::Failed)) => assert!(rt; call < 9, "{call}"),
             Ok(_) => assert!(rt; call >= 9, "{call}"),
             Err(error) => return Err(error.into()),
         }

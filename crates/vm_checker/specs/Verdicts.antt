@@ -10,8 +10,8 @@ use Rattle.rv_run.specs.Run.{Ends}
 use Rattle.table_format.specs.File.{FileValue, IsFile, spelling}
 use Rattle.vm_transpile.specs.Program.{program_of}
 use Rattle.vm_checker.specs.declared.Accepted.{Accepted as Acceptance}
-use Rattle.vm_checker.specs.declared.CheckError.{CheckError}
-use Rattle.vm_checker.specs.declared.CheckError.TheVariants.{Fault}
+use Rattle.vm_host.specs.declared.HostError.{HostError}
+use Rattle.vm_host.specs.declared.HostError.TheVariants.{Failed}
 use Rattle.vm_checker.specs.declared.Verdict.{Verdict}
 use Rattle.vm_checker.specs.declared.Verdict.TheVariants.{Accepted, Rejected}
 use Rattle.vm_checker.specs.declared.Reason.TheVariants.{File, Claim}
@@ -49,8 +49,8 @@ pub record Judged (sheet : Sheet) (loaded : Loaded) (s t : HostState) (taken : L
   pub exact : verdict ≢ Rejected File → taken ≡ bytes
   pub end : verdict ≢ Rejected File → AtEnd (t.input Second).rest
 
-pub record Checks (sheet : Sheet) (loaded : Loaded) (s t : HostState) (result : Result Verdict CheckError) : Type 0 where
+pub record Checks (sheet : Sheet) (loaded : Loaded) (s t : HostState) (result : Result Verdict HostError) : Type 0 where
   -- whatever the answer, the input lost what was read, and nothing else changed
   pub took : (bytes : List ℕ) × Took Second s t bytes
   pub judged : IfOk result (λ verdict. Judged sheet loaded s t took.0 verdict)
-  pub fault : IsErrOf result Fault → Rose s.faults t.faults
+  pub fault : IsErrOf result Failed → Rose s.faults t.faults

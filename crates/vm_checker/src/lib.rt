@@ -8,7 +8,6 @@ ghost use Rattle.vm_host.specs.State.{HostState};
 ghost use Rattle.vm_host.specs.declared.Slot.TheVariants.{Second};
 ghost use Rattle.vm_checker.specs.Accepts.{IsPathTable};
 ghost use Rattle.vm_checker.specs.Verdicts.{Checks, verdict_of};
-ghost use Rattle.vm_checker.specs.declared.CheckError.TheVariants.{OutOfMemory as NoMemory};
 
 mod accept;
 mod events;
@@ -19,10 +18,9 @@ use accept::accepts;
 use air_core::Chip;
 use elf_image::Image;
 pub use hints::HintBytes;
-use std::alloc::{AllocError, Global};
+use std::alloc::Global;
 use table_format::{TableError, read_file};
-use thiserror::Error;
-use vm_host::Host;
+use vm_host::{Host, HostError};
 use vm_transpile::transpile;
 
 /// What an accepted file says of the run.
@@ -53,24 +51,6 @@ pub enum Verdict {
     Rejected(Reason),
 }
 
-/// Why there is no verdict.
-#[derive(Clone, Copy, Debug, PartialEq, Eq, Error)]
-pub enum CheckError {
-    /// A read was refused with a fault.
-    #[error("the input could not be read")]
-    Fault,
-    #[error("out of memory")]
-    OutOfMemory,
-}
-
-impl From<AllocError> for CheckError {
-    ghost from_gives = { λ _ error. error ≡ NoMemory };
-
-    fn from(_error: AllocError) -> CheckError {
-        CheckError::OutOfMemory
-    }
-}
-
 /// Checks the table file in the host's second input against the program of an image.
 ///
 /// The table's rows may say something on the execution bus and the program bus alone. Nothing else is
@@ -80,7 +60,7 @@ pub fn check<C: Chip, H: Host>(
     chip: &C,
     image: &Image,
     host: &mut H,
-) -> Result<Verdict, CheckError>
+) -> Result<Verdict, HostError>
     requires table { IsPathTable (C.sheet chip.now) }
     requires open { ((H.state host.old).input Second).is_open ≡ true }
     ensures { Checks (C.sheet chip.now) image.now (H.state host.old) (H.state host.new) result }
@@ -93,8 +73,7 @@ pub fn check<C: Chip, H: Host>(
             Ok(judge(alloc, accepted, file.exit_code))
         }
         Err(TableError::Refused) => Ok(Verdict::Rejected(Reason::File)),
-        Err(TableError::Fault) => Err(CheckError::Fault),
-        Err(TableError::OutOfMemory) => Err(CheckError::OutOfMemory),
+        Err(TableError::Host(error)) => Err(error),
     }
 }
 

@@ -5,13 +5,12 @@ use Rattle.std.specs.Prelude.{None, Some, Ok, Err, Result, IsErrAnd}
 use Rattle.std.specs.declared.option.Option.{Option}
 use Rattle.vm_host.specs.declared.Slot.{Slot}
 use Rattle.vm_host.specs.State.{HostState, after_these}
-use Rattle.vm_host.specs.Calls.{AtEnd, HasCause, Reads, Rose}
-use Rattle.vm_host.specs.Causes.{cause_of}
+use Rattle.vm_host.specs.Calls.{AtEnd, Reads, Rose}
 use Rattle.vm_host.specs.declared.HostError.{HostError}
 use Rattle.vm_host.specs.declared.HostError.TheVariants.{Failed, OutOfMemory as NoMemory}
 use Rattle.vm_host.specs.ReadUpTo.{Took, ReadsUpTo}
 use Rattle.vm_host.specs.declared.ReadError.{ReadError}
-use Rattle.vm_host.specs.declared.ReadError.TheVariants.{Fault, TooLong, OutOfMemory}
+use Rattle.vm_host.specs.declared.ReadError.TheVariants.{TooLong, Host}
 
 pub after_none : (told : Option (List ℕ)) → told ≡ after_these [] told
 after_none None = refl
@@ -111,7 +110,7 @@ answers_whole items slot limit s u v a bound end =
     }
 
 -- an error that is known
-answers_error : {V : Type 0} (items : V → List ℕ) (slot : Slot) (limit : ℕ) (s u : HostState) (xs : List ℕ) (e : ReadError) → Took slot s u xs → length xs ≤ limit + 1 → (e ≡ Fault → Rose s.faults u.faults) → (e ≡ TooLong → length xs ≡ limit + 1) → ReadsUpTo items slot limit s u (Err e)
+answers_error : {V : Type 0} (items : V → List ℕ) (slot : Slot) (limit : ℕ) (s u : HostState) (xs : List ℕ) (e : ReadError) → Took slot s u xs → length xs ≤ limit + 1 → (e ≡ Host Failed → Rose s.faults u.faults) → (e ≡ TooLong → length xs ≡ limit + 1) → ReadsUpTo items slot limit s u (Err e)
 answers_error items slot limit s u xs e a short fault long = record {
   took = (xs, a);
   within = short;
@@ -130,21 +129,15 @@ pub answers_too_long : {V : Type 0} (items : V → List ℕ) (slot : Slot) (limi
 answers_too_long items slot limit s u xs a past = answers_error items slot limit s u xs TooLong a (omega arith) (λ e. absurd cc) (λ e. past)
 
 -- memory was refused
-pub answers_memory : {V : Type 0} (items : V → List ℕ) (slot : Slot) (limit : ℕ) (s u : HostState) (xs : List ℕ) (result : Result V ReadError) → Took slot s u xs → length xs ≤ limit + 1 → IsErrAnd result (λ e. e ≡ OutOfMemory) → ReadsUpTo items slot limit s u result
+pub answers_memory : {V : Type 0} (items : V → List ℕ) (slot : Slot) (limit : ℕ) (s u : HostState) (xs : List ℕ) (result : Result V ReadError) → Took slot s u xs → length xs ≤ limit + 1 → IsErrAnd result (λ e. e ≡ Host NoMemory) → ReadsUpTo items slot limit s u result
 answers_memory items slot limit s u xs (Ok v) a short is = absurd is
 answers_memory items slot limit s u xs (Err e) a short is = answers_error items slot limit s u xs e a short (λ fault. absurd cc) (λ long. absurd cc)
 
-fault_rose : (t u : HostState) (cause : HostError) → HasCause {T = ℕ} t.faults u.faults (Err cause) → cause_of cause ≡ Fault → Rose t.faults u.faults
-fault_rose t u Failed r is = r.failed refl
-fault_rose t u NoMemory r is = absurd cc
-
-no_cause_too_long : (cause : HostError) → cause_of cause ≡ TooLong → ⊥
-no_cause_too_long Failed is = absurd cc
-no_cause_too_long NoMemory is = absurd cc
-
 -- a piece was refused
-pub answers_refused : {V : Type 0} (items : V → List ℕ) (slot : Slot) (limit : ℕ) (s t u : HostState) (xs into : List ℕ) (cause : HostError) (result : Result V ReadError) → Took slot s t xs → length xs ≤ limit + 1 → Reads slot t u (Err cause) into → IsErrAnd result (λ e. e ≡ cause_of cause) → ReadsUpTo items slot limit s u result
+pub answers_refused : {V : Type 0} (items : V → List ℕ) (slot : Slot) (limit : ℕ) (s t u : HostState) (xs into : List ℕ) (cause : HostError) (result : Result V ReadError) → Took slot s t xs → length xs ≤ limit + 1 → Reads slot t u (Err cause) into → IsErrAnd result (λ e. e ≡ Host cause) → ReadsUpTo items slot limit s u result
 answers_refused items slot limit s t u xs into cause (Ok v) a short r is = absurd is
 answers_refused items slot limit s t u xs into cause (Err e) a short r is =
-    let rose : e ≡ Fault → Rose s.faults u.faults = λ fault. let now : Rose t.faults u.faults = fault_rose t u cause r.cause (sym is ∙ fault) in omega (arith, a.later) in
-    answers_error items slot limit s u xs e (took_refused slot s t u xs into cause a r) short rose (λ long. absurd (no_cause_too_long cause (sym is ∙ long)))
+    let rose : e ≡ Host Failed → Rose s.faults u.faults = λ failed.
+    let same : cause ≡ Failed = cc (is, failed) in
+    let now : Rose t.faults u.faults = r.cause.failed (ap Err same) in omega (arith, now, a.later) in
+    answers_error items slot limit s u xs e (took_refused slot s t u xs into cause a r) short rose (λ long. absurd (cc (is, long)))

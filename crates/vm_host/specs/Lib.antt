@@ -1,7 +1,6 @@
 pub mod Names
 pub mod State
 pub mod Calls
-pub mod Causes
 pub mod ReadUpTo
 pub mod Bytes
 pub mod Tape
@@ -9,3 +8,4 @@ pub mod Memory
 pub mod Numbered
 pub mod NoFault
 pub mod Real
+pub mod lemmas

@@ -5,7 +5,7 @@ use Rattle.std.specs.declared.option.Option.{Option}
 use Rattle.vm_host.specs.declared.Slot.{Slot}
 use Rattle.vm_host.specs.declared.Slot.TheVariants.{Elf, Second}
 use Rattle.vm_host.specs.declared.Place.{Place}
-use Rattle.vm_host.specs.declared.memory.NamedFile.{NamedFile}
+use Rattle.vm_host.specs.declared.named_file.NamedFile.{NamedFile}
 use Rattle.vm_host.specs.declared.memory.Noted.{Noted}
 use Rattle.vm_host.specs.declared.memory.MemoryHost.{MemoryHost}
 use Rattle.vm_host.specs.State.{HostState, Input}
@@ -14,7 +14,7 @@ use Rattle.vm_host.specs.Bytes.{Bytes}
 -- the bytes of the first file of this name
 abbrev pub content_of : List NamedFile → List ℕ → Option (List ℕ)
 content_of [] name = None
-content_of (file ∷ files) name = if bytes_eq (string_bytes file.name) name then Some file.bytes.items else content_of files name
+content_of (file ∷ files) name = if bytes_eq file.name name then Some file.bytes else content_of files name
 
 -- the place and the name that were noted
 abbrev pub pair_of : Noted → Place × List ℕ

@@ -3,7 +3,7 @@ use Rattle.std.specs.Prelude.{◌≡◌, ℕ, ◌+◌, ◌-◌, ◌^◌, min, Li
 use Rattle.vm_host.specs.declared.Slot.{Slot}
 use Rattle.vm_host.specs.declared.HostError.{HostError}
 use Rattle.vm_host.specs.declared.HostError.TheVariants.{Failed}
-use Rattle.vm_host.specs.declared.memory.NamedFile.{NamedFile}
+use Rattle.vm_host.specs.declared.named_file.NamedFile.{NamedFile}
 use Rattle.vm_host.specs.declared.memory.MemoryHost.{MemoryHost}
 use Rattle.vm_host.specs.State.{HostState}
 use Rattle.vm_host.specs.Memory.{memory_state}

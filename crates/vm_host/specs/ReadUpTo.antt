@@ -2,7 +2,8 @@
 use Rattle.std.specs.Prelude.{◌≡◌, ℕ, ◌+◌, ◌≤◌, ◌<◌, List, length, true, Result, IsErrOf, IfOk, OnOk, IfSome}
 use Rattle.vm_host.specs.declared.Slot.{Slot}
 use Rattle.vm_host.specs.declared.ReadError.{ReadError}
-use Rattle.vm_host.specs.declared.ReadError.TheVariants.{Fault, TooLong}
+use Rattle.vm_host.specs.declared.ReadError.TheVariants.{TooLong, Host}
+use Rattle.vm_host.specs.declared.HostError.TheVariants.{Failed}
 use Rattle.vm_host.specs.State.{HostState, after_these}
 use Rattle.vm_host.specs.Calls.{AtEnd, Rose, KeepsOther}
 
@@ -28,4 +29,4 @@ pub record ReadsUpTo {V : Type 0} (items : V → List ℕ) (slot : Slot) (limit 
   pub too_long : IsErrOf result TooLong → IfSome (old.input slot).rest (λ rest. limit < length rest)
   pub fits : OnOk result (IfSome (old.input slot).rest (λ rest. length rest ≤ limit))
   pub read_past : IsErrOf result TooLong → length took.0 ≡ limit + 1
-  pub fault : IsErrOf result Fault → Rose old.faults new.faults
+  pub fault : IsErrOf result (Host Failed) → Rose old.faults new.faults

@@ -1,6 +1,7 @@
 -- What a host is, as far as contracts see it. What a host need not tell is an `Option`, and `None` where
 -- it doesn't.
-use Rattle.std.specs.Prelude.{ℕ, List, ◌++◌, Bool}
+use Rattle.std.specs.Prelude.{ℕ, ◌<◌, List, ◌++◌, Bool, IfSome}
+use Rattle.std.specs.List.{AllByRecursion}
 use Rattle.std.specs.Option.{option_map}
 use Rattle.std.specs.declared.option.Option.{Option}
 use Rattle.vm_host.specs.declared.Slot.{Slot}
@@ -30,6 +31,15 @@ pub record HostState : Type 0 where
   pub said : Option (List ℕ)
   -- the places and names that were handed over, in order
   pub named : Option (List (Place × List ℕ))
+
+-- each element of what is told is a byte
+abbrev pub AreBytes : Option (List ℕ) → Type 0
+AreBytes told = IfSome told (λ all. AllByRecursion (λ byte. byte < 256) all)
+
+-- what a host tells of files, whole or not yet read, is made of bytes
+pub record TellsBytes (s : HostState) : Type 0 where
+  pub content : (slot : Slot) (name : List ℕ) → AreBytes (s.content slot name)
+  pub rest : (slot : Slot) → AreBytes (s.input slot).rest
 
 -- what is told, and then xs
 abbrev pub then_more : {A : Type 0} → Option (List A) → List A → Option (List A)

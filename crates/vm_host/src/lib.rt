@@ -2,21 +2,22 @@
 #![tactic(auto)]
 
 ghost use Rattle.std.specs.Prelude.{◌≡◌, ℕ, ◌≤◌, ◌<◌, ◌^◌, length, true};
-ghost use Rattle.vm_host.specs.State.{HostState};
+ghost use Rattle.vm_host.specs.State.{HostState, TellsBytes};
 ghost use Rattle.vm_host.specs.Calls.{Opens, Reads, Creates, Writes, Finishes, Says};
 ghost use Rattle.vm_host.specs.Names.{place_of};
-ghost use Rattle.vm_host.specs.Causes.{cause_of};
 ghost use Rattle.vm_host.specs.ReadUpTo.{ReadsUpTo};
 
 mod faults;
 mod memory;
+mod named_file;
 mod no_fault;
 mod real;
 mod tape;
 #[cfg(test)]
 mod tests;
 
-pub use memory::{MemoryHost, NamedFile};
+pub use memory::MemoryHost;
+pub use named_file::{FileBytes, FileName, NamedFile};
 pub use no_fault::NoFaultHost;
 pub use real::RealHost;
 use std::alloc::{AllocError, AllocFailed, Global};
@@ -45,7 +46,8 @@ pub enum HostError {
     /// The outside failed, and the host counted a fault.
     #[error("a file or the standard output failed")]
     Failed,
-    /// Memory ran out. That is no fault of the outside, and isn't counted as one.
+    /// Memory ran out, in the host or in the program. That is no fault of the outside, and isn't
+    /// counted as one.
     #[error("out of memory")]
     OutOfMemory,
 }
@@ -53,15 +55,12 @@ pub enum HostError {
 /// Why an input could not be read whole.
 #[derive(Clone, Copy, Debug, PartialEq, Eq, Error)]
 pub enum ReadError {
-    /// A read was refused with a fault.
-    #[error("the input could not be read")]
-    Fault,
     /// More bytes are left than the limit allows.
     #[error("the input is longer than the limit")]
     TooLong,
-    /// Memory ran out, here or in the host.
-    #[error("out of memory")]
-    OutOfMemory,
+    /// A read was refused, or memory ran out.
+    #[error("{0}")]
+    Host(HostError),
 }
 
 impl From<Slot> for Place {
@@ -96,23 +95,23 @@ impl<T: Drop> From<AllocFailed<T>> for HostError {
 }
 
 impl From<AllocError> for ReadError {
-    ghost use Rattle.vm_host.specs.declared.ReadError.TheVariants.{OutOfMemory};
+    ghost use Rattle.vm_host.specs.declared.HostError.TheVariants.{OutOfMemory};
+    ghost use Rattle.vm_host.specs.declared.ReadError.TheVariants.{Host};
 
-    ghost from_gives = { λ _ error. error ≡ OutOfMemory };
+    ghost from_gives = { λ _ error. error ≡ Host OutOfMemory };
 
     fn from(_error: AllocError) -> ReadError {
-        ReadError::OutOfMemory
+        ReadError::Host(HostError::OutOfMemory)
     }
 }
 
 impl From<HostError> for ReadError {
-    ghost from_gives = { λ cause error. error ≡ cause_of cause };
+    ghost use Rattle.vm_host.specs.declared.ReadError.TheVariants.{Host};
+
+    ghost from_gives = { λ cause error. error ≡ Host cause };
 
     fn from(cause: HostError) -> ReadError {
-        match cause {
-            HostError::Failed => ReadError::Fault,
-            HostError::OutOfMemory => ReadError::OutOfMemory,
-        }
+        ReadError::Host(cause)
     }
 }
 
@@ -155,6 +154,9 @@ pub trait Host {
     /// Appends the whole text to what the program says, and after a refusal some first part of it.
     fn say(&mut self, text: &[u8]) -> Result<(), HostError>
         ensures { Says text.now (state self.old) (state self.new) result };
+
+    /// What the host tells of files is made of bytes.
+    ghost bytes: { (host : Self) → TellsBytes (state host) };
 }
 
 /// The most bytes that `read_up_to` asks for in one call.

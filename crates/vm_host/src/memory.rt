@@ -3,19 +3,14 @@ ghost use Rattle.std.specs.Prelude.{◌≡◌, ◌⊎◌, ℕ, ◌≤◌, ◌++�
 ghost use Rattle.vm_host.specs.State.{HostState};
 ghost use Rattle.vm_host.specs.Calls.{Opens, Reads, Creates, Writes, Finishes, Says};
 ghost use Rattle.vm_host.specs.Memory.{content_of, memory_state, pair_of};
+ghost use Rattle.vm_host.specs.lemmas.HostBytes.{memory_bytes};
 ghost use Rattle.vm_host.specs.Numbered.{IsListed, Numbered, TellsAll, number_of, failing_of, files_of};
 
 use crate::faults::Failing;
-use crate::tape::{Reader, Tape};
+use crate::named_file::NamedFile;
+use crate::tape::Reader;
 use crate::{Host, HostError, Place, Slot};
 use std::alloc::Global;
-
-/// A file of a host in memory.
-#[derive(Drop)]
-pub struct NamedFile {
-    pub name: String,
-    pub bytes: Vec<u8>,
-}
 
 /// A name that was handed over.
 #[derive(Drop)]
@@ -43,7 +38,7 @@ pub struct MemoryHost {
 
 // The first file of this name.
 fn find_file<'a>(files: &'a [NamedFile], name: &str) -> Option<&'a NamedFile>
-    ensures { MatchOption result (content_of files.now name.now ≡ None) (λ f. content_of files.now name.now ≡ Some f.now.bytes.items) }
+    ensures { MatchOption result (content_of files.now name.now ≡ None) (λ f. content_of files.now name.now ≡ Some f.now.bytes) }
 {
     for file in files {
         if file.name.as_str() == name {
@@ -110,6 +105,8 @@ impl MemoryHost {
 impl Host for MemoryHost {
     ghost state = { memory_state };
 
+    ghost bytes = { memory_bytes };
+
     fn open_input(&mut self, slot: Slot, name: &str) -> Result<(), HostError>
         ensures opens { Opens slot name.now (memory_state self.old) (memory_state self.new) result }
         ensures numbered { Numbered self.old self.new result (IsListed self.old ⊎ IsNone (content_of (files_of self.old) name.now)) }
@@ -120,10 +117,7 @@ impl Host for MemoryHost {
         let Some(file) = find_file(&self.files, name) else {
             return Err(self.failing.fault());
         };
-        let reader = Reader {
-            is_open: true,
-            tape: Tape::new(file.bytes.to_vec(self.alloc)?),
-        };
+        let reader = Reader::opened(file.bytes.as_slice().to_vec(self.alloc)?);
         match slot {
             Slot::Elf => self.elf = reader,
             Slot::Second => self.second = reader,
@@ -139,8 +133,8 @@ impl Host for MemoryHost {
     {
         self.failing.next()?;
         match slot {
-            Slot::Elf => Ok(self.elf.tape.read(into)),
-            Slot::Second => Ok(self.second.tape.read(into)),
+            Slot::Elf => Ok(self.elf.read(into)),
+            Slot::Second => Ok(self.second.read(into)),
         }
     }
 

@@ -2,6 +2,7 @@
 ghost use Rattle.std.specs.Prelude.{◌≡◌, [], Some, None, false};
 ghost use Rattle.vm_host.specs.Calls.{Creates};
 ghost use Rattle.vm_host.specs.NoFault.{no_fault_state};
+ghost use Rattle.vm_host.specs.lemmas.HostBytes.{no_fault_bytes};
 
 use crate::tape::Reader;
 use crate::{Host, HostError, Slot};
@@ -54,6 +55,8 @@ impl NoFaultHost {
 impl Host for NoFaultHost {
     ghost state = { no_fault_state };
 
+    ghost bytes = { no_fault_bytes };
+
     fn open_input(&mut self, slot: Slot, _name: &str) -> Result<(), HostError> {
         match slot {
             Slot::Elf => self.elf.open(),
@@ -64,8 +67,8 @@ impl Host for NoFaultHost {
 
     fn read(&mut self, slot: Slot, into: &mut [u8]) -> Result<usize, HostError> {
         match slot {
-            Slot::Elf => Ok(self.elf.tape.read(into)),
-            Slot::Second => Ok(self.second.tape.read(into)),
+            Slot::Elf => Ok(self.elf.read(into)),
+            Slot::Second => Ok(self.second.read(into)),
         }
     }
 

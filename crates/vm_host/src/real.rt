@@ -3,9 +3,11 @@ ghost use Rattle.std.specs.Prelude.{◌≡◌, ◌<◌, ◌≤◌, ◌^◌, leng
 ghost use Rattle.std.specs.Io.{ReadsAtMost, WritesAtMost};
 ghost use Rattle.std.specs.Io.KnownBytes.{Appends, ReadConsumes, WriteAppends};
 ghost use Rattle.vm_host.specs.Real.{untold_state};
+ghost use Rattle.vm_host.specs.lemmas.HostBytes.{untold_bytes};
 
 use crate::faults::Faults;
 use crate::{Host, HostError, Slot};
+use std::fs::OpenFile;
 use std::io::{ErrorKind, Read, Write};
 use std::rt::Files;
 use std::{fs, io};
@@ -65,6 +67,15 @@ fn write_some<W: Write>(writer: &mut W, piece: &[u8]) -> io::Result<usize>
     Err(io::Error::from(ErrorKind::TimedOut))
 }
 
+// Brings to the disk what was written, so that an error that a close would hide is told. A pipe or a
+// terminal has nothing to bring there, and says that the call is invalid.
+fn sync<F: OpenFile>(file: &F) -> io::Result<()> {
+    match file.sync_all() {
+        Err(e) if e.kind() == ErrorKind::InvalidInput => Ok(()),
+        done => done,
+    }
+}
+
 // Writes all of a piece. A write that takes nothing is an error. An impl of `Write` may have a
 // `write_all` of its own, so this is a loop over `write`.
 fn write_whole<W: Write>(writer: &mut W, piece: &[u8]) -> io::Result<()>
@@ -98,6 +109,8 @@ impl<'a, R: Files + Print> RealHost<'a, R> {
 
 impl<'a, R: Files + Print> Host for RealHost<'a, R> {
     ghost state = { λ h. untold_state h.faults.count h.elf h.second h.out };
+
+    ghost bytes = { λ h. untold_bytes h.faults.count h.elf h.second h.out };
 
     fn open_input(&mut self, slot: Slot, name: &str) -> Result<(), HostError> {
         self.faults.refuse_at_last()?;
@@ -149,11 +162,11 @@ impl<'a, R: Files + Print> Host for RealHost<'a, R> {
     }
 
     fn finish(&mut self) -> Result<(), HostError> {
-        let Some(mut file) = self.out.take() else {
+        let Some(file) = self.out.take() else {
             unreachable!()
         };
         self.faults.refuse_at_last()?;
-        match file.flush() {
+        match sync(&file) {
             Ok(()) => Ok(()),
             Err(_) => Err(self.faults.raise()),
         }

@@ -1,5 +1,5 @@
 // Bytes that are read from front to end.
-ghost use Rattle.std.specs.Prelude.{◌≡◌, ℕ, ◌≤◌, ◌<◌, ◌++◌, [], length, take, true, false};
+ghost use Rattle.std.specs.Prelude.{◌≡◌, ℕ, ◌≤◌, ◌<◌, ◌++◌, [], length, take, slice_index, true, false};
 
 use std::marker::Model;
 
@@ -59,12 +59,15 @@ impl Tape {
 pub struct Reader {
     pub is_open: bool,
     pub tape: Tape,
+    ghost all_bytes: { (k : ℕ) → slice_index tape.all k < 256 },
+    ghost rest_bytes: { (k : ℕ) → slice_index tape.rest k < 256 },
 }
 
 impl Reader {
     /// A closed input of these bytes.
     pub fn new(bytes: Vec<u8>) -> Self
-        ensures { result ≡ record { is_open = false; tape = record { all = bytes.items; rest = bytes.items } } }
+        ensures closed { result.is_open ≡ false }
+        ensures tape { result.tape ≡ record { all = bytes.items; rest = bytes.items } }
     {
         Reader {
             is_open: false,
@@ -72,11 +75,34 @@ impl Reader {
         }
     }
 
+    /// An input of these bytes that stands open at their front.
+    pub fn opened(bytes: Vec<u8>) -> Self
+        ensures open { result.is_open ≡ true }
+        ensures tape { result.tape ≡ record { all = bytes.items; rest = bytes.items } }
+    {
+        Reader {
+            is_open: true,
+            tape: Tape::new(bytes),
+        }
+    }
+
     /// Opens the input at its front.
     pub fn open(&mut self)
-        ensures { self.new ≡ record { is_open = true; tape = record { all = self.old.tape.all; rest = self.old.tape.all } } }
+        ensures open { self.new.is_open ≡ true }
+        ensures tape { self.new.tape ≡ record { all = self.old.tape.all; rest = self.old.tape.all } }
     {
         self.is_open = true;
         self.tape.rewind();
+    }
+
+    /// Reads as many of the bytes that are left as fit.
+    pub fn read(&mut self, into: &mut [u8]) -> usize
+        ensures open { self.new.is_open ≡ self.old.is_open }
+        ensures all { self.new.tape.all ≡ self.old.tape.all }
+        ensures bound { result ≤ length into.new }
+        ensures taken { self.old.tape.rest ≡ take result into.new ++ self.new.tape.rest }
+        ensures end { result ≡ 0 → 0 < length into.new → self.new.tape.rest ≡ [] }
+    {
+        self.tape.read(into)
     }
 }

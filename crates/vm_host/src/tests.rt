@@ -1,12 +1,13 @@
-use crate::{Host, HostError, MemoryHost, NamedFile, NoFaultHost, ReadError, Slot, read_up_to};
+use crate::{
+    Host, HostError, MemoryHost, NamedFile, NoFaultHost, ReadError, RealHost, Slot, read_up_to,
+};
 use std::alloc::{AllocError, Global};
 use std::test::Fail;
+use std::{env, fs};
 
 fn named(alloc: Global, name: &str, bytes: &[u8]) -> Result<NamedFile, AllocError> {
-    Ok(NamedFile {
-        name: String::from_str(alloc, name)?,
-        bytes: bytes.to_vec(alloc)?,
-    })
+    let name = String::from_str(alloc, name)?;
+    Ok(NamedFile::of(name, bytes.to_vec(alloc)?))
 }
 
 // Two files, and a third that no call sees, since its name has come before.
@@ -44,7 +45,11 @@ fn each_call_fails_in_turn(rt: HostRuntime) -> Result<(), Fail> {
         let mut host = MemoryHost::new(alloc, files(alloc)?, failing);
         let result = copy(alloc, &mut host);
         let done = call == 10;
-        let expected = if done { Ok(()) } else { Err(ReadError::Fault) };
+        let expected = if done {
+            Ok(())
+        } else {
+            Err(ReadError::Host(HostError::Failed))
+        };
         assert_eq!(rt; result, expected, "call {call}");
         let said = if done { "done" } else { "" };
         assert_eq!(rt; host.said(), said.as_bytes(), "call {call}");
@@ -106,5 +111,32 @@ fn a_name_that_is_missing(rt: HostRuntime) -> Result<(), Fail> {
     let mut host = MemoryHost::new(alloc, files(alloc)?, Vec::new(alloc));
     assert_eq!(rt; host.open_input(Slot::Elf, "out"), Err(HostError::Failed));
     assert_eq!(rt; host.open_input(Slot::Second, "program"), Ok(()));
+    Ok(())
+}
+
+// A file is created, written and finished, and then read; a name in no folder and a full device fail.
+#[test]
+fn real_files(rt: HostRuntime) -> Result<(), Fail> {
+    let alloc = rt.alloc();
+    let path = env::temp_dir(&rt)?.join(alloc, "vm_host_real_files")?;
+    let name = path.as_str();
+    let mut host = RealHost::new(&rt);
+    for text in ["the first and longer one", "", "second"] {
+        assert_eq!(rt; host.create(name), Ok(()));
+        for piece in [&text[..text.len() / 2], &text[text.len() / 2..]] {
+            assert_eq!(rt; host.write(piece.as_bytes()), Ok(()));
+        }
+        assert_eq!(rt; host.finish(), Ok(()));
+        assert_eq!(rt; host.open_input(Slot::Second, name), Ok(()));
+        let bytes = read_up_to(alloc, &mut host, Slot::Second, 100)?;
+        assert_eq!(rt; bytes.as_slice(), text.as_bytes());
+    }
+    fs::remove_file(&rt, name)?;
+    assert_eq!(rt; host.open_input(Slot::Elf, name), Err(HostError::Failed));
+    assert_eq!(rt; host.create("/no/such/folder"), Err(HostError::Failed));
+    assert_eq!(rt; host.create("/dev/full"), Ok(()));
+    assert_eq!(rt; host.write(b"a"), Err(HostError::Failed));
+    assert_eq!(rt; host.create("/dev/null"), Ok(()));
+    assert_eq!(rt; host.finish(), Ok(()));
     Ok(())
 }

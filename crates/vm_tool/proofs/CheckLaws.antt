@@ -2,10 +2,10 @@
 use Rattle.std.proofs.Common.{◌≡◌, ℕ, List, refl, sym, ap, ◌∙◌, subst, Some, arith}
 use Rattle.std.specs.declared.option.Option.{Option}
 use Rattle.std.specs.Option.{option_map}
-use Rattle.std.specs.Prelude.{true, []}
+use Rattle.std.specs.Prelude.{true, [], replicate}
 use Rattle.vm_host.specs.declared.Slot.{Slot}
 use Rattle.vm_host.specs.declared.Slot.TheVariants.{Elf, Second}
-use Rattle.vm_host.specs.State.{HostState, Input, then_more}
+use Rattle.vm_host.specs.State.{HostState, AreBytes, TellsBytes, then_more}
 use Rattle.elf_image.specs.Loaded.{Loaded}
 use Rattle.air_core.specs.Nop.{nop_sheet}
 use Rattle.elf_image.specs.Image.{HasImage}
@@ -15,15 +15,18 @@ use Rattle.vm_checker.specs.Verdicts.{acceptance_of, Judges, accepted, no_file, 
 use Rattle.vm_tool.specs.declared.answer.Answer.{Answer}
 use Rattle.vm_tool.specs.declared.answer.Answer.TheVariants as answer
 use Rattle.vm_tool.specs.declared.answer.Halt.TheVariants.{Found}
+use Rattle.vm_tool.specs.declared.answer.Status.{Status}
 use Rattle.vm_tool.specs.declared.answer.Status.TheVariants as status
 use Rattle.vm_tool.specs.Answer.{status_of, text_of}
-use Rattle.vm_tool.specs.Command.{check}
+use Rattle.vm_tool.specs.Command.{Command, Means, check}
 use Rattle.vm_tool.specs.Files.{OverElf, elf_refused, over_image}
 use Rattle.vm_tool.specs.CheckCommand.{answer_of_verdict, CheckAnswers}
-use Rattle.vm_tool.specs.Outcome.{Outcome, answered, fault, memory}
+use Rattle.vm_tool.specs.Headline.{RunsAsSaid, AcceptedRuns}
+use Rattle.vm_tool.specs.Outcome.{Answers, Outcome, answered, fault, memory}
 use Rattle.vm_tool.specs.Laws.{StatesRun, AcceptedIsARun}
 use Rattle.vm_tool.proofs.Stages.{elf_not_done}
 use Rattle.vm_tool.proofs.Quiet.{told_is}
+use Rattle.vm_tool.proofs.LawLemmas.{meaning_is_one}
 
 -- an answer with status 0 is an accepted file
 record IsAccepted (elf tables : List ℕ) (found : Answer) : Type 0 where
@@ -63,6 +66,29 @@ accepted_by inputs old new elf tables (answered found says is text leaves) =
     )
 accepted_by inputs old new elf tables (fault is rose part leaves) = absurd (cc (is))
 accepted_by inputs old new elf tables (memory is part leaves) = absurd (cc (is))
+
+-- the run that an accepted file states is the one that the line says
+runs_as_said : (old new : HostState) (tables e h : List ℕ) → Accepts old new tables e h → RunsAsSaid e old new
+runs_as_said old new tables e h a = record {
+  loaded = a.1.loaded;
+  image = a.1.image;
+  hints = [];
+  steps = _;
+  code = a.0;
+  public_bytes = replicate 64 0;
+  ends = a.1.ends;
+  segments = 1;
+  said = a.2;
+}
+
+pub accepted_runs : (words : List (List ℕ)) (command : Option Command) (old new : HostState) (result : Status) → TellsBytes old → Means words command → Answers command old new result → AcceptedRuns words old new result
+accepted_runs words command old new result bytes means answers elf tables e is done told =
+    let same : command ≡ Some (check elf tables) = meaning_is_one words command (Some (check elf tables)) means (is, tt) in
+    let a : Answers (Some (check elf tables)) old new status.Done = subst (λ s. Answers (Some (check elf tables)) old new s) done (subst (λ c. Answers c old new result) same answers) in
+    let elf_is : e ≡ a.inputs Elf = told_is (old.content Elf elf) e (a.inputs Elf) told a.contents.0 in
+    let elf_bytes : IsBytes e = subst AreBytes told (bytes.content Elf elf) in
+    let accepts = accepted_by a.inputs old new elf tables a.outcome (subst IsBytes elf_is elf_bytes) in
+    subst (λ x. RunsAsSaid x old new) (sym elf_is) (runs_as_said old new tables (a.inputs Elf) (a.inputs Second) accepts)
 
 pub accepted_is_a_run : AcceptedIsARun
 accepted_is_a_run old new elf tables e h a p q =

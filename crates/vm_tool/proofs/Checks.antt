@@ -7,7 +7,6 @@ use Rattle.vm_host.specs.declared.Slot.TheVariants.{Elf, Second}
 use Rattle.vm_host.specs.declared.Place.{Place}
 use Rattle.vm_host.specs.declared.Place.TheVariants as place
 use Rattle.vm_host.specs.declared.HostError.{HostError}
-use Rattle.vm_host.specs.declared.HostError.TheVariants as host
 use Rattle.vm_host.specs.Memory.{by_slot}
 use Rattle.vm_host.specs.State.{HostState, Input, after_these}
 use Rattle.vm_host.specs.ReadUpTo.{Took}
@@ -18,8 +17,6 @@ use Rattle.vm_checker.specs.declared.Accepted.{Accepted as Acceptance}
 use Rattle.vm_checker.specs.declared.Verdict.{Verdict}
 use Rattle.vm_checker.specs.declared.Verdict.TheVariants as verdict
 use Rattle.vm_checker.specs.declared.Reason.TheVariants as reason
-use Rattle.vm_checker.specs.declared.CheckError.{CheckError}
-use Rattle.vm_checker.specs.declared.CheckError.TheVariants as error
 use Rattle.vm_checker.specs.Verdicts.{Checks, Judged}
 use Rattle.vm_tool.specs.declared.answer.Answer.TheVariants.{Accepted}
 use Rattle.vm_tool.specs.declared.answer.Halt.{Halt}
@@ -92,15 +89,8 @@ module _ (elf tables : List ℕ) (s t : HostState) (bytes : List ℕ) (loaded : 
         (λ writes. (writes, reads_accepted v c)) quiet
         (over_image loaded image (record { verdict = v; judges = c.judged.judges; is = refl }), λ done. quiet.named)
 
-    fails : {result : Result Verdict CheckError} (error : HostError) → Checks (nop_sheet 8) loaded u w result → (error ≡ host.Failed → Rose u.faults w.faults) → Finds (Some (check elf tables)) s w (Host error)
-    fails error c rose =
+    -- reading fails, or memory was refused
+    pub check_fails : (error : HostError) → Checks (nop_sheet 8) loaded u w (Err error) → Finds (Some (check elf tables)) s w (Host error)
+    check_fails error c =
         fails_second (check elf tables) elf tables s w bytes loaded 1 error (check_known elf tables) a.told image (read_both c.took.0 c.took.1)
-        (λ failed. rose_after s.faults u.faults w.faults (omega (arith, a.quiet.later, o.quiet.later)) (rose failed))
-
-    -- reading fails
-    pub check_fails : Checks (nop_sheet 8) loaded u w (Err error.Fault) → Finds (Some (check elf tables)) s w (Host host.Failed)
-    check_fails c = fails host.Failed c (λ failed. c.fault refl)
-
-    -- memory was refused
-    pub check_without_memory : {result : Result Verdict CheckError} → Checks (nop_sheet 8) loaded u w result → Finds (Some (check elf tables)) s w (Host host.OutOfMemory)
-    check_without_memory c = fails host.OutOfMemory c (λ failed. absurd (cc (failed)))
+        (λ failed. rose_after s.faults u.faults w.faults (omega (arith, a.quiet.later, o.quiet.later)) (c.fault (ap Err failed)))

@@ -11,3 +11,4 @@ pub mod Says
 pub mod Outcome
 pub mod ReadFile
 pub mod Laws
+pub mod Headline

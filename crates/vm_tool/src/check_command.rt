@@ -8,8 +8,8 @@ use crate::answer::{Answer, Halt};
 use crate::inputs::{open, read_elf};
 use air_core::Nop;
 use std::alloc::Global;
-use vm_checker::{CheckError, Verdict, check as check_tables};
-use vm_host::{Host, HostError, Slot};
+use vm_checker::{Verdict, check as check_tables};
+use vm_host::{Host, Slot};
 
 /// Checks the table file against the program of the ELF file.
 pub fn find_check<H: Host>(
@@ -24,8 +24,7 @@ pub fn find_check<H: Host>(
     open(Slot::Second, tables, host)?;
     match check_tables(alloc, &Nop::new(), &image, host) {
         Ok(verdict) => Ok(answer_of(verdict)),
-        Err(CheckError::Fault) => Err(Halt::Host(HostError::Failed)),
-        Err(CheckError::OutOfMemory) => Err(Halt::Host(HostError::OutOfMemory)),
+        Err(error) => Err(Halt::Host(error)),
     }
 }
 

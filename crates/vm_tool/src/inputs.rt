@@ -36,8 +36,7 @@ fn read_file<H: Host>(
     match read_up_to(alloc, host, slot, MAX_LENGTH) {
         Ok(bytes) => Ok(bytes),
         Err(ReadError::TooLong) => Err(Halt::Found(long)),
-        Err(ReadError::Fault) => Err(Halt::Host(HostError::Failed)),
-        Err(ReadError::OutOfMemory) => Err(Halt::Host(HostError::OutOfMemory)),
+        Err(ReadError::Host(error)) => Err(Halt::Host(error)),
     }
 }
 

@@ -24,10 +24,7 @@ fn elf_of(alloc: Global, words: &[u32]) -> Result<Vec<u8>, AllocError> {
 }
 
 fn named(alloc: Global, name: &str, bytes: Vec<u8>) -> Result<NamedFile, AllocError> {
-    Ok(NamedFile {
-        name: String::from_str(alloc, name)?,
-        bytes,
-    })
+    Ok(NamedFile::of(String::from_str(alloc, name)?, bytes))
 }
 
 // A host with this ELF file, an empty hint file and one of twelve bytes, and calls that fail.

@@ -3,6 +3,7 @@ ghost use Rattle.std.specs.Prelude.{◌≡◌, map, string_bytes, Option};
 ghost use Rattle.std.specs.Option.{option_map};
 ghost use Rattle.vm_tool.specs.Command.{Command, Means};
 ghost use Rattle.vm_tool.specs.Form.{command_of};
+ghost use Rattle.vm_tool.specs.Headline.{AcceptedRuns};
 ghost use Rattle.vm_tool.specs.Outcome.{Answers, Finds, Speaks, halt_of};
 
 use crate::answer::{Answer, Halt, Status};
@@ -14,8 +15,11 @@ use std::alloc::Global;
 use vm_host::Host;
 
 /// Does what the words say, and answers the status. The words are those after the program's name.
+///
+/// Where `check` ends with status 0, the ELF file's program runs and ends as the line says.
 pub fn openvm<H: Host>(alloc: Global, words: &[String], host: &mut H) -> Status
-    ensures { (command : Option Command) × Means (map string_bytes words.now) command × Answers command (H.state host.old) (H.state host.new) result }
+    ensures accepted { AcceptedRuns (map string_bytes words.now) (H.state host.old) (H.state host.new) result }
+    ensures answers { (command : Option Command) × Means (map string_bytes words.now) command × Answers command (H.state host.old) (H.state host.new) result }
 {
     perform(alloc, parse_words(words), host)
 }

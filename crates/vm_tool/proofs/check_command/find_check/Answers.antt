@@ -1,6 +1,6 @@
 use Rattle.std.proofs.lemmas.Result.{err_from_is_err_and}
 use Rattle.vm_checker.proofs.Nop.{nop_table}
-use Rattle.vm_tool.proofs.Checks.{check_known, tables_halt, check_found, check_fails, check_without_memory}
+use Rattle.vm_tool.proofs.Checks.{check_known, tables_halt, check_found, check_fails}
 use Rattle.vm_tool.proofs.Stages.{elf_halts}
 use Rattle.vm_tool.proofs.check_command.find_check.Goals as goal
 
@@ -23,12 +23,7 @@ returns-in-Ok g c =
     let elf = c.in_ok-image.ensures in
     rw (c.answer_of.ensures) (check_found _ _ _ _ _ _ elf.1 elf.2 _ _ c.in_ok-open.ensures.opened c.in-Ok.verdict c.in-Ok.ensures)
 
-pub returns-in-Err-Fault : goal.returns-in-Err-Fault
-returns-in-Err-Fault g c =
-    let elf = c.in_ok-image.ensures in
-    check_fails _ _ _ _ _ _ elf.1 elf.2 _ _ c.in_ok-open.ensures.opened (rw c.in-Err-Fault.field-0-is at c.in-Err-Fault.ensures)
-
 pub returns : goal.returns
 returns g c =
     let elf = c.in_ok-image.ensures in
-    check_without_memory _ _ _ _ _ _ elf.1 elf.2 _ _ c.in_ok-open.ensures.opened c.check.ensures
+    check_fails _ _ _ _ _ _ elf.1 elf.2 _ _ c.in_ok-open.ensures.opened c.in-Err.error (rw c.in-Err.is at c.check.ensures)

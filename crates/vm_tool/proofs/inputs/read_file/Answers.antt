@@ -1,6 +1,7 @@
-use Rattle.std.proofs.Common.{refl}
+use Rattle.std.proofs.Common.{refl, ap, Err}
 use Rattle.std.proofs.lemmas.Result.{err_from_is_err_and}
 use Rattle.vm_tool.proofs.Files.{file_too_long, opened_for_nothing, no_refusal, rose_after}
+use Rattle.vm_host.specs.declared.ReadError.TheVariants.{Host}
 use Rattle.vm_tool.proofs.inputs.read_file.Goals as goal
 
 pub returns-in_err-open : goal.returns-in_err-open
@@ -13,10 +14,7 @@ returns-in-Err-TooLong g c =
     let long = file_too_long _ _ _ _ _ _ c.in_ok-open.ensures.opened (rw c.in-Err-TooLong.field-0-is at c.in-Err-TooLong.ensures) in
     (long.0, long.1, (long.2, refl))
 
-pub returns-in-Err-Fault : goal.returns-in-Err-Fault
-returns-in-Err-Fault g c =
-    (opened_for_nothing _ _ _ _ _ _ c.in_ok-open.ensures.opened c.read_up_to.ensures.took.1, λ failed. rose_after _ _ _ c.in_ok-open.ensures.opened.quiet.later ((rw c.in-Err-Fault.field-0-is at c.in-Err-Fault.ensures).fault refl))
-
-pub returns-in-Err-OutOfMemory : goal.returns-in-Err-OutOfMemory
-returns-in-Err-OutOfMemory g c =
-    (opened_for_nothing _ _ _ _ _ _ c.in_ok-open.ensures.opened c.read_up_to.ensures.took.1, λ failed. absurd (cc (failed)))
+pub returns-in-Err-Host : goal.returns-in-Err-Host
+returns-in-Err-Host g c =
+    let fault = (rw c.in-Err-Host.field-0-is at c.in-Err-Host.ensures).fault in
+    (opened_for_nothing _ _ _ _ _ _ c.in_ok-open.ensures.opened c.read_up_to.ensures.took.1, λ failed. rose_after _ _ _ c.in_ok-open.ensures.opened.quiet.later (fault (ap (λ e. Err (Host e)) failed)))

@@ -1,0 +1,2 @@
+-- What the laws of the hosts rest on.
+pub mod HostBytes
