@@ -1,2 +1,3 @@
 pub mod Regs
-pub mod Laws
+pub mod Core
+pub mod lemmas

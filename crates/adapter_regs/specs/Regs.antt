@@ -1,103 +1,82 @@
--- The register form: its columns, constraints and events, and its columns of a step.
-use Rattle.std.specs.Prelude.{ℕ, ◌+◌, cond, List, [], ◌∷◌, ◌++◌, map, slice_index, slice_get, unwrap_or}
-use Rattle.vm_field.specs.Field.{field_add, field_sub, field_mul}
+-- The register form: its columns, constraints, accesses and program row over any ring, and its columns of a step.
+use Rattle.std.specs.Prelude.{ℕ, ◌+◌, Bool, cond, List, [], ◌∷◌, ◌++◌, slice_get, unwrap_or}
 use Rattle.vm_isa.specs.declared.access.TimedAccess.{TimedAccess}
 use Rattle.vm_isa.specs.declared.record.StepRecord.{StepRecord}
 use Rattle.vm_isa.specs.Instr.{bit_of}
-use Rattle.air_core.specs.declared.event.Event.{Event}
+use Rattle.vm_isa.specs.Spaces.{REGISTERS}
 use Rattle.vm_field.specs.declared.limbs.Limbs.{Limbs}
+use Rattle.vm_field.specs.Limbs.{limbs_by, limbs_from, list_of}
 use Rattle.air_core.specs.First.{gated_difference}
-use Rattle.vm_field.specs.Limbs.{limbs_at, limbs_from, list_of}
+use Rattle.air_core.specs.Ring.{Ring, cell}
 use Rattle.gadget_time.specs.declared.touch.Touch.{Touch}
 use Rattle.gadget_time.specs.declared.touch.Gap.{Gap}
-use Rattle.gadget_time.specs.Told.{Told, told_front, touch_constraint, gap_filled}
+use Rattle.gadget_time.specs.Told.{gap_filled}
 use Rattle.adapter_regs.specs.declared.regs.Regs.{Regs}
 
-unfoldable pub gap_at : List ℕ → ℕ → Gap
-gap_at row at = record { before = slice_index row at; lo = slice_index row (at + 1); hi = slice_index row (at + 2) }
+abbrev pub gap_by : {A : Type 0} → (ℕ → A) → ℕ → Gap A
+gap_by column at = record { before = column at; lo = column (at + 1); hi = column (at + 2) }
 
--- the columns of a row: the registers begin at one place, and the times at another
-unfoldable pub regs_at : List ℕ → ℕ → ℕ → Regs
-regs_at row at times = record {
-  pc = slice_index row 0;
-  time = slice_index row 1;
-  rd = slice_index row at;
-  rs1 = slice_index row (at + 1);
-  rs2 = slice_index row (at + 2);
-  use_imm = slice_index row (at + 3);
-  imm = limbs_at row (at + 4);
-  left = limbs_at row (at + 8);
-  right = limbs_at row (at + 12);
-  old = limbs_at row (at + 16);
-  first = gap_at row times;
-  second = gap_at row (times + 3);
-  third = gap_at row (times + 6);
-}
+abbrev pub limbs_of_zero : {A E : Type 0} → Ring A E → Limbs A
+limbs_of_zero o = record { x0 = o.number 0; x1 = o.number 0; x2 = o.number 0; x3 = o.number 0 }
 
-abbrev pub no_limbs : Limbs
-no_limbs = record { x0 = 0; x1 = 0; x2 = 0; x3 = 0 }
+-- where the words begin among the columns behind the flags: behind three registers and, in the form with
+-- immediates, use_imm and the immediate
+abbrev pub words_from : Bool → ℕ
+words_from immediates = cond immediates 8 3
 
--- of a table with no immediates
-unfoldable pub regs3_at : List ℕ → ℕ → ℕ → Regs
-regs3_at row at times = record {
-  pc = slice_index row 0;
-  time = slice_index row 1;
-  rd = slice_index row at;
-  rs1 = slice_index row (at + 1);
-  rs2 = slice_index row (at + 2);
-  use_imm = 0;
-  imm = no_limbs;
-  left = limbs_at row (at + 3);
-  right = limbs_at row (at + 7);
-  old = limbs_at row (at + 11);
-  first = gap_at row times;
-  second = gap_at row (times + 3);
-  third = gap_at row (times + 6);
-}
+-- the columns of a row, of which so many are the table's own; without immediates these are 0
+unfoldable pub regs_of : {A E : Type 0} → Ring A E → Bool → ℕ → A → A → List A → Regs A
+regs_of o immediates own pc time rest =
+    let column = cell o rest in
+    let words = words_from immediates in
+    record {
+      pc = pc;
+      time = time;
+      rd = column 0;
+      rs1 = column 1;
+      rs2 = column 2;
+      use_imm = cond immediates (column 3) (o.number 0);
+      imm = cond immediates (limbs_by column 4) (limbs_of_zero o);
+      left = limbs_by column words;
+      right = limbs_by column (words + 4);
+      old = limbs_by column (words + 8);
+      first = gap_by column (words + 12 + own);
+      second = gap_by column (words + 12 + own + 3);
+      third = gap_by column (words + 12 + own + 6);
+    }
 
-unfoldable pub first_touch : Regs → ℕ → Touch
-first_touch r valid = record { count = valid; slot = 0; space = 1; pointer = field_mul 4 r.rs1; old = r.left; new = r.left; gap = r.first }
+unfoldable pub first_touch : {A E : Type 0} → Ring A E → Regs A → A → Touch A
+first_touch o r valid = record { count = valid; slot = o.number 0; space = o.number REGISTERS; pointer = o.times (o.number 4) r.rs1; old = r.left; new = r.left; gap = r.first }
 
 -- with an immediate there is no second access
-unfoldable pub second_touch : Regs → ℕ → Touch
-second_touch r valid = record { count = field_mul valid (field_sub 1 r.use_imm); slot = 1; space = 1; pointer = field_mul 4 r.rs2; old = r.right; new = r.right; gap = r.second }
-
-unfoldable pub third_touch : Regs → ℕ → Limbs → Touch
-third_touch r valid new = record { count = valid; slot = 2; space = 1; pointer = field_mul 4 r.rd; old = r.old; new = new; gap = r.third }
-
-abbrev pub regs_touches : Regs → ℕ → Limbs → List Touch
-regs_touches r valid new = first_touch r valid ∷ second_touch r valid ∷ third_touch r valid new ∷ []
-
-unfoldable pub immediate_constraints : Regs → List ℕ
-immediate_constraints r =
-    gated_difference r.use_imm r.right.x0 r.imm.x0
-    ∷ gated_difference r.use_imm r.right.x1 r.imm.x1
-    ∷ gated_difference r.use_imm r.right.x2 r.imm.x2
-    ∷ gated_difference r.use_imm r.right.x3 r.imm.x3
-    ∷ []
-
-abbrev pub time_constraints : Regs → ℕ → Limbs → List ℕ
-time_constraints r valid new = map (touch_constraint r.time) (regs_touches r valid new)
-
--- the program row: write is 1, and there is no target
-unfoldable pub regs_numbers : Regs → ℕ → List ℕ
-regs_numbers r op = r.pc ∷ op ∷ r.rd ∷ r.rs1 ∷ r.rs2 ∷ 1 ∷ r.use_imm ∷ r.imm.x0 ∷ r.imm.x1 ∷ r.imm.x2 ∷ r.imm.x3 ∷ 0 ∷ []
-
--- all that a row of the register form says, beside other events
-abbrev pub regs_told : Regs → ℕ → ℕ → Limbs → List Event → Told
-regs_told r valid op new others = record {
-  valid = valid;
-  pc = r.pc;
-  time = r.time;
-  next = field_add r.pc 4;
-  slots = 3;
-  numbers = regs_numbers r op;
-  touches = regs_touches r valid new;
-  others = others;
+unfoldable pub second_touch : {A E : Type 0} → Ring A E → Regs A → A → Touch A
+second_touch o r valid = record {
+  count = o.times valid (o.minus (o.number 1) r.use_imm);
+  slot = o.number 1;
+  space = o.number REGISTERS;
+  pointer = o.times (o.number 4) r.rs2;
+  old = r.right;
+  new = r.right;
+  gap = r.second;
 }
 
-abbrev pub regs_front : ℕ → Regs → ℕ → ℕ → Limbs → List Event
-regs_front hi r valid op new = told_front hi (regs_told r valid op new [])
+unfoldable pub third_touch : {A E : Type 0} → Ring A E → Regs A → A → Limbs A → Touch A
+third_touch o r valid new = record { count = valid; slot = o.number 2; space = o.number REGISTERS; pointer = o.times (o.number 4) r.rd; old = r.old; new = new; gap = r.third }
+
+abbrev pub regs_touches : {A E : Type 0} → Ring A E → Regs A → A → Limbs A → List (Touch A)
+regs_touches o r valid new = first_touch o r valid ∷ second_touch o r valid ∷ third_touch o r valid new ∷ []
+
+unfoldable pub immediate_constraints : {A E : Type 0} → Ring A E → Regs A → List A
+immediate_constraints o r =
+    gated_difference o r.use_imm r.right.x0 r.imm.x0
+    ∷ gated_difference o r.use_imm r.right.x1 r.imm.x1
+    ∷ gated_difference o r.use_imm r.right.x2 r.imm.x2
+    ∷ gated_difference o r.use_imm r.right.x3 r.imm.x3
+    ∷ []
+
+-- the program row behind pc and opcode: write is 1, and there is no target
+unfoldable pub regs_numbers : {A E : Type 0} → Ring A E → Regs A → List A
+regs_numbers o r = r.rd ∷ r.rs1 ∷ r.rs2 ∷ o.number 1 ∷ r.use_imm ∷ r.imm.x0 ∷ r.imm.x1 ∷ r.imm.x2 ∷ r.imm.x3 ∷ o.number 0 ∷ []
 
 -- The columns of a step.
 
@@ -110,22 +89,22 @@ access_at accesses place = unwrap_or (slice_get accesses place) no_access
 unfoldable pub last_access : StepRecord → TimedAccess
 last_access done = cond done.instr.use_imm (access_at done.accesses 1) (access_at done.accesses 2)
 
-unfoldable pub right_filled : StepRecord → Limbs
+unfoldable pub right_filled : StepRecord → Limbs ℕ
 right_filled done = cond done.instr.use_imm (limbs_from done.instr.imm) (limbs_from (access_at done.accesses 1).access.old)
 
-abbrev pub no_gap : Gap
+abbrev pub no_gap : Gap ℕ
 no_gap = record { before = 0; lo = 0; hi = 0 }
 
-abbrev pub gap_of : TimedAccess → Gap
+abbrev pub gap_of : TimedAccess → Gap ℕ
 gap_of a = gap_filled a.time a.before
 
-unfoldable pub second_filled : StepRecord → Gap
+unfoldable pub second_filled : StepRecord → Gap ℕ
 second_filled done = cond done.instr.use_imm no_gap (gap_of (access_at done.accesses 1))
 
-unfoldable pub new_filled : StepRecord → Limbs
+unfoldable pub new_filled : StepRecord → Limbs ℕ
 new_filled done = limbs_from (last_access done).access.new
 
-unfoldable pub regs_filled : StepRecord → Regs
+unfoldable pub regs_filled : StepRecord → Regs ℕ
 regs_filled done = record {
   pc = done.instr.pc;
   time = done.time;
@@ -143,15 +122,11 @@ regs_filled done = record {
 }
 
 -- the register columns of a row in their order, and those of the times
-abbrev pub gap_cells : Gap → List ℕ
+abbrev pub gap_cells : Gap ℕ → List ℕ
 gap_cells g = g.before ∷ g.lo ∷ g.hi ∷ []
 
-unfoldable pub regs_cells : Regs → List ℕ
-regs_cells r = r.rd ∷ r.rs1 ∷ r.rs2 ∷ r.use_imm ∷ (list_of r.imm ++ (list_of r.left ++ (list_of r.right ++ list_of r.old)))
+unfoldable pub regs_cells : Bool → Regs ℕ → List ℕ
+regs_cells immediates r = r.rd ∷ r.rs1 ∷ r.rs2 ∷ (cond immediates (r.use_imm ∷ list_of r.imm) [] ++ (list_of r.left ++ (list_of r.right ++ list_of r.old)))
 
--- of a table with no immediates
-unfoldable pub regs3_cells : Regs → List ℕ
-regs3_cells r = r.rd ∷ r.rs1 ∷ r.rs2 ∷ (list_of r.left ++ (list_of r.right ++ list_of r.old))
-
-unfoldable pub time_cells : Regs → List ℕ
+unfoldable pub time_cells : Regs ℕ → List ℕ
 time_cells r = gap_cells r.first ++ (gap_cells r.second ++ gap_cells r.third)

@@ -1,12 +1,16 @@
 //! The register form: the words of two registers are read, or of one and an immediate, and the word of a
-//! third register is written.
+//! third register is written. A table of the form is a `RegsCore`.
 #![tactic(auto)]
 
+mod own;
+mod form;
 pub mod laws;
+mod put;
+pub mod records;
 mod regs;
 mod step;
-#[cfg(test)]
-mod tests;
 
-pub use regs::{Regs, events, immediate, read, read3, times};
-pub use step::{fill, new_word};
+pub use own::RegsCore;
+pub use form::{RegsChip, RegsForm};
+pub use regs::{Regs, immediate, numbers, read, touches, words_from};
+pub use step::{filled_regs, new_word};

@@ -85,7 +85,7 @@ fn byte(number: u8) -> Fe
 
 /// The columns of a step.
 #[tactic(auto, unfolding(crate::specs::Regs::regs_filled))]
-pub fn fill(done: &StepRecord) -> Regs
+pub fn filled_regs(done: &StepRecord) -> Regs
     requires pc_low { done.now.instr.pc < modulus }
     requires time_low { done.now.time < modulus }
     ensures { result ≡ regs_filled done.now }

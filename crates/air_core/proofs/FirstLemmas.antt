@@ -7,6 +7,7 @@ use Rattle.std.proofs.lemmas.List.Elements.{All-head, All-tail, All-cons, All-ni
 use Rattle.std.proofs.lemmas.List.{length-map}
 use Rattle.air_core.specs.First.{bit, first_from, or_else}
 use Rattle.air_core.specs.Flags.{sum_from, flag_constraints}
+use Rattle.air_core.specs.Ring.{field}
 
 pub first_from-append : (i : ℕ) (xs ys : List ℕ) → first_from i (xs ++ ys) ≡ or_else (first_from i xs) (first_from (i + length xs) ys)
 first_from-append i [] ys = rw add-zero refl
@@ -48,6 +49,6 @@ All-append_right [] ys h = h
 All-append_right (x ∷ xs) ys h = All-append_right xs ys (All-tail (λ x. x ≡ 0) x (xs ++ ys) h)
 
 -- the constraints of each flag, and then that of their sum
-pub flags_split : (flags : List ℕ) → first_from 0 (flag_constraints flags) ≡ or_else (first_from 0 (map bit flags)) (first_from (length flags) (bit (sum_from 0 flags) ∷ []))
+pub flags_split : (flags : List ℕ) → first_from 0 (flag_constraints field flags) ≡ or_else (first_from 0 (map (bit field) flags)) (first_from (length flags) (bit field (sum_from field 0 flags) ∷ []))
 unfolding flag_constraints
-flags_split flags = first_from-part 0 (length flags) (map bit flags) (bit (sum_from 0 flags) ∷ []) (omega (arith, length-map flags bit))
+flags_split flags = first_from-part 0 (length flags) (map (bit field) flags) (bit field (sum_from field 0 flags) ∷ []) (omega (arith, length-map flags (bit field)))

@@ -6,6 +6,7 @@ use Rattle.air_core.specs.Sheet.{counted}
 use Rattle.air_core.specs.Path.{path_lines}
 use Rattle.air_core.specs.Hint.{is_program, sends_program, NoHint}
 use Rattle.air_core.specs.ListLemmas.{all_counted}
+use Rattle.air_core.specs.Ring.{field}
 
 -- an event that sends no program tuple of an opcode
 abbrev pub NoProgram : ℕ → List Event → Type 0
@@ -19,7 +20,7 @@ and_none : (b : Bool) → (b && false) ≡ false
 and_none true = refl
 and_none false = refl
 
-pub path_no_program : (op valid pc time next slots : ℕ) (numbers : List ℕ) → nat_eq (slice_index numbers 1) op ≡ false → NoProgram op (path_lines valid pc time next slots numbers)
+pub path_no_program : (op valid pc time next slots : ℕ) (numbers : List ℕ) → nat_eq (slice_index numbers 1) op ≡ false → NoProgram op (path_lines field valid pc time next slots numbers)
 unfolding path_lines
 path_no_program op valid pc time next slots numbers h = (refl, (refl, (rw h (and_none (nat_eq valid 1)), tt)))
 

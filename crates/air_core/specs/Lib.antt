@@ -6,6 +6,8 @@ pub mod Totals
 pub mod First
 pub mod Flags
 pub mod Sheet
+pub mod Ring
+pub mod Formal
 pub mod Path
 pub mod Lookups
 pub mod Step
@@ -25,3 +27,4 @@ pub mod ExtensionLaws
 pub mod PartLemmas
 pub mod JoinLaws
 pub mod SingleLaws
+pub mod lemmas

@@ -7,6 +7,7 @@ use Rattle.air_core.specs.declared.nop.columns.NopRow.{NopRow}
 use Rattle.air_core.specs.Sheet.{Sheet}
 use Rattle.air_core.specs.Flags.{flag_constraints, sum_from, weighted_from}
 use Rattle.air_core.specs.Path.{path_lines}
+use Rattle.air_core.specs.Ring.{field}
 
 -- the columns of a row
 unfoldable pub nop_row : List ℕ → NopRow
@@ -21,11 +22,11 @@ nop_flags r = r.nop ∷ []
 
 -- the sum of the flags
 unfoldable pub nop_valid : NopRow → ℕ
-nop_valid r = sum_from 0 (nop_flags r)
+nop_valid r = sum_from field 0 (nop_flags r)
 
 -- the opcode of the flag that is set
 unfoldable pub nop_op : NopRow → ℕ
-nop_op r = weighted_from 0 (nop_flags r) (39 ∷ [])
+nop_op r = weighted_from field 0 (nop_flags r) (39 ∷ [])
 
 -- the program row
 unfoldable pub nop_numbers : NopRow → List ℕ
@@ -33,11 +34,11 @@ nop_numbers r = r.pc ∷ nop_op r ∷ 0 ∷ 0 ∷ 0 ∷ 0 ∷ 0 ∷ 0 ∷ 0 ∷ 
 
 -- the events, in order
 unfoldable pub nop_lines : NopRow → List Event
-nop_lines r = path_lines (nop_valid r) r.pc r.time (field_add r.pc 4) 1 (nop_numbers r)
+nop_lines r = path_lines field (nop_valid r) r.pc r.time (field_add r.pc 4) 1 (nop_numbers r)
 
 -- the constraints: 0 the flag, 1 the sum of the flags
 unfoldable pub nop_constraints : NopRow → List ℕ
-nop_constraints r = flag_constraints (nop_flags r)
+nop_constraints r = flag_constraints field (nop_flags r)
 
 -- the columns of a step
 unfoldable pub nop_filled : StepRecord → NopRow

@@ -24,6 +24,7 @@ use Rattle.air_core.specs.ListLemmas.{all_counted, all_counted_back, all_counted
 use Rattle.air_core.specs.FlagLaws.{flag_cases, sum_none}
 use Rattle.air_core.specs.SoundLaws.{timed_of_sound}
 use Rattle.air_core.specs.PathLaws.{path_quiet, path_program, path_good, path_counts, path_step, path_recorded, time_fits}
+use Rattle.air_core.specs.Ring.{field}
 
 -- Law Fits
 
@@ -144,8 +145,8 @@ pub flag_of : (r : NopRow) → AllBelow (nop_flags r) → AllZero (nop_constrain
 unfolding nop_constraints nop_valid
 flag_of r small holds =
     ⊎_elim
-    (λ (none : (sum_from 0 (nop_flags r) ≡ 0) × AllZero (nop_flags r)). inl none.0)
-    (λ (one : (sum_from 0 (nop_flags r) ≡ 1) × OneHot (nop_flags r)). inr (one.0, one_flag r one.1))
+    (λ (none : (sum_from field 0 (nop_flags r) ≡ 0) × AllZero (nop_flags r)). inl none.0)
+    (λ (one : (sum_from field 0 (nop_flags r) ≡ 1) × OneHot (nop_flags r)). inr (one.0, one_flag r one.1))
     (flag_cases (nop_flags r) small (few_flags r) holds)
 
 pub nop_sound : (hi : ℕ) → Sound (nop_sheet hi)

@@ -12,6 +12,7 @@ use Rattle.air_core.specs.Path.{path_lines}
 use Rattle.air_core.specs.Lookups.{GoodEvent}
 use Rattle.air_core.specs.Step.{on_bus, IsStep}
 use Rattle.air_core.specs.Laws.{Recorded}
+use Rattle.air_core.specs.Ring.{field}
 
 -- times of 16 + hi bits are far below the modulus
 pub time_fits : (hi time slots : ℕ) → hi ≤ 13 → time + slots ≤ 2 ^ (16 + hi) → time + slots ≤ 2 ^ 29
@@ -21,7 +22,7 @@ time_fits hi time slots top ends =
     omega arith
 
 -- a row that is not valid has no path
-pub path_quiet : (valid pc time next slots : ℕ) (numbers : List ℕ) → valid ≡ 0 → AllByRecursion (λ e. e.count ≡ 0) (path_lines valid pc time next slots numbers)
+pub path_quiet : (valid pc time next slots : ℕ) (numbers : List ℕ) → valid ≡ 0 → AllByRecursion (λ e. e.count ≡ 0) (path_lines field valid pc time next slots numbers)
 unfolding path_lines
 path_quiet valid pc time next slots numbers h = (h, (h, (h, tt)))
 
@@ -31,17 +32,17 @@ pub record PathOn (pc time next slots : ℕ) (numbers : List ℕ) (events : List
   pub program : on_bus 1 events ≡ sent 1 1 numbers ∷ []
   pub memory : on_bus 2 events ≡ []
 
-path_on_one : (pc time next slots : ℕ) (numbers : List ℕ) → PathOn pc time next slots numbers (counted (path_lines 1 pc time next slots numbers))
+path_on_one : (pc time next slots : ℕ) (numbers : List ℕ) → PathOn pc time next slots numbers (counted (path_lines field 1 pc time next slots numbers))
 unfolding path_lines
 path_on_one pc time next slots numbers = record { path = refl; program = refl; memory = refl }
 
-pub path_on : (valid pc time next slots : ℕ) (numbers : List ℕ) → valid ≡ 1 → PathOn pc time next slots numbers (counted (path_lines valid pc time next slots numbers))
+pub path_on : (valid pc time next slots : ℕ) (numbers : List ℕ) → valid ≡ 1 → PathOn pc time next slots numbers (counted (path_lines field valid pc time next slots numbers))
 path_on valid pc time next slots numbers v =
-    subst (λ (x : ℕ). PathOn pc time next slots numbers (counted (path_lines x pc time next slots numbers))) (sym v) (path_on_one pc time next slots numbers)
+    subst (λ (x : ℕ). PathOn pc time next slots numbers (counted (path_lines field x pc time next slots numbers))) (sym v) (path_on_one pc time next slots numbers)
 
 -- a valid row's program tuple is an instruction's
 pub path_program : (valid pc time next slots : ℕ) (numbers : List ℕ) → valid ≡ 1
-    → AllByRecursion (λ e. e.count ≢ 0 → GoodEvent e) (path_lines valid pc time next slots numbers) → IsInstruction numbers
+    → AllByRecursion (λ e. e.count ≢ 0 → GoodEvent e) (path_lines field valid pc time next slots numbers) → IsInstruction numbers
 unfolding path_lines
 path_program valid pc time next slots numbers v h = (h.1.1.0 (omega arith)).program refl
 
@@ -51,7 +52,7 @@ good_free e p x r k =
     record { program = λ h. absurd (p h); xor = λ h. absurd (x h); range = λ h. absurd (r h); constant = λ h. absurd (k h) }
 
 pub path_good : (valid pc time next slots : ℕ) (numbers : List ℕ) → IsInstruction numbers
-    → AllByRecursion (λ e. e.count ≢ 0 → GoodEvent e) (path_lines valid pc time next slots numbers)
+    → AllByRecursion (λ e. e.count ≢ 0 → GoodEvent e) (path_lines field valid pc time next slots numbers)
 unfolding path_lines
 path_good valid pc time next slots numbers is = (
   λ n. good_free _ (omega arith) (omega arith) (omega arith) (omega arith),
@@ -61,13 +62,13 @@ path_good valid pc time next slots numbers is = (
   ),
 )
 
-pub path_counts : (valid pc time next slots : ℕ) (numbers : List ℕ) → valid ≡ 1 → AllByRecursion (λ e. e.count ≡ 1) (path_lines valid pc time next slots numbers)
+pub path_counts : (valid pc time next slots : ℕ) (numbers : List ℕ) → valid ≡ 1 → AllByRecursion (λ e. e.count ≡ 1) (path_lines field valid pc time next slots numbers)
 unfolding path_lines
 path_counts valid pc time next slots numbers v = (v, (v, (v, tt)))
 
 -- a valid row that has a path alone is a step without accesses
 pub path_step : (slots bits : ℕ) (instr : VmInstr) (valid pc time next : ℕ) (numbers : List ℕ) → valid ≡ 1 → InRange instr → numbers ≡ numbers_of instr → pc ≡ instr.pc → time < modulus
-    → IsStep slots bits instr time next [] (counted (path_lines valid pc time next slots numbers))
+    → IsStep slots bits instr time next [] (counted (path_lines field valid pc time next slots numbers))
 path_step slots bits instr valid pc time next numbers v range are at below =
     let on = path_on valid pc time next slots numbers v in
     record {
@@ -87,7 +88,7 @@ path_step slots bits instr valid pc time next numbers v range are at below =
 -- and it says a record without accesses
 pub path_recorded : (done : StepRecord) (valid next slots : ℕ) (numbers : List ℕ) → valid ≡ 1 → next ≡ done.next → numbers ≡ numbers_of done.instr
     → field_add done.time slots ≡ done.time + slots_of done.instr.op → done.accesses ≡ []
-    → Recorded done (counted (path_lines valid done.instr.pc done.time next slots numbers))
+    → Recorded done (counted (path_lines field valid done.instr.pc done.time next slots numbers))
 path_recorded done valid next slots numbers v goes are ends none =
     let on = path_on valid done.instr.pc done.time next slots numbers v in
     record {

@@ -1,5 +1,6 @@
 //! Events handed over one by one, as they are made.
 
+ghost use Rattle.air_core.specs.Ring.{field};
 ghost use Rattle.std.specs.Prelude.{◌≡◌, ℕ, ◌+◌, ◌≤◌, [], ◌∷◌, ◌++◌, length, OnOk, OnErr};
 ghost use Rattle.air_core.specs.Path.{path_lines};
 ghost use Rattle.air_core.specs.Sheet.{counted, event, sent, received};
@@ -71,8 +72,8 @@ pub fn emit_path<S: EventSink>(
     sink: &mut S,
 ) -> Result<(), OutOfMemory>
     requires room { 3 ≤ S.room sink.old }
-    ensures ok { OnOk result (Handed S.holds S.room sink.old sink.new (counted (path_lines valid pc time next slots numbers.now))) }
-    ensures err { OnErr result (HandedSome S.holds S.room sink.old sink.new (counted (path_lines valid pc time next slots numbers.now))) }
+    ensures ok { OnOk result (Handed S.holds S.room sink.old sink.new (counted (path_lines field valid pc time next slots numbers.now))) }
+    ensures err { OnErr result (HandedSome S.holds S.room sink.old sink.new (counted (path_lines field valid pc time next slots numbers.now))) }
 {
     emit_received(bus::EXECUTION, valid, &[pc, time], sink)?;
     emit_sent(

@@ -1,5 +1,6 @@
 //! The events that each instruction table has alike.
 
+ghost use Rattle.air_core.specs.Ring.{field};
 ghost use Rattle.std.specs.Prelude.{◌≡◌};
 ghost use Rattle.air_core.specs.Path.{path_lines};
 
@@ -16,7 +17,7 @@ pub fn path_events(
     slots: u16,
     numbers: &[Fe; 12],
 ) -> [Event; 3]
-    ensures { result ≡ path_lines valid pc time next slots numbers.now }
+    ensures { result ≡ path_lines field valid pc time next slots numbers.now }
 {
     [
         receive(0, valid, &[pc, time]),

@@ -1,6 +1,3 @@
 pub mod Alu
-pub mod Results
-pub mod AluSound
-pub mod AluQuiet
-pub mod Filled
-pub mod AluComplete
+pub mod Laws
+pub mod lemmas

@@ -6,6 +6,7 @@ use Rattle.air_core.specs.First.{bit}
 use Rattle.air_core.specs.Path.{path_lines}
 use Rattle.air_core.specs.Sheet.{Sheet, sent, received}
 use Rattle.air_core.specs.System.{System}
+use Rattle.air_core.specs.Ring.{field}
 
 -- the program row of a no-operation, where the flag is set
 unfoldable pub step_numbers : ℕ → ℕ → List ℕ
@@ -13,7 +14,7 @@ step_numbers pc flag = pc ∷ field_mul flag 39 ∷ 0 ∷ 0 ∷ 0 ∷ 0 ∷ 0 �
 
 -- the step, and the question
 unfoldable pub step_lines : ℕ → ℕ → ℕ → ℕ → List Event
-step_lines pc time flag x = path_lines flag pc time (field_add pc x) 1 (step_numbers pc flag) ++ (sent 6 flag (x ∷ []) ∷ [])
+step_lines pc time flag x = path_lines field flag pc time (field_add pc x) 1 (step_numbers pc flag) ++ (sent 6 flag (x ∷ []) ∷ [])
 
 -- columns pc, t, flag, x
 abbrev pub step_sheet : Sheet
@@ -27,7 +28,7 @@ step_sheet = record {
   owns = λ op. nat_eq op 39;
   takes = λ op. nat_eq op 39;
   alone = false;
-  constraints = λ row. bit (slice_index row 2) ∷ [];
+  constraints = λ row. bit field (slice_index row 2) ∷ [];
   lines = λ row. step_lines (slice_index row 0) (slice_index row 1) (slice_index row 2) (slice_index row 3);
   filled = λ done place. done.instr.pc ∷ done.time ∷ 1 ∷ 4 ∷ [];
 }

@@ -25,6 +25,7 @@ use Rattle.air_core.specs.Step.{on_bus, Touched, IsStep, TimedStep}
 use Rattle.air_core.specs.System.{tables_for}
 use Rattle.air_core.specs.ExtensionLaws.{ExtensionFits, ExtensionBuses, ExtensionRows, ExtensionTimed, ExtensionComplete, ExtensionQuiet, OnOwnBus, SlotsFit, RecordRows, lookup_count}
 use Rattle.extension_tests.specs.Pair.{pair, step_sheet, answer_sheet, step_lines, step_numbers, answer_constraint}
+use Rattle.air_core.specs.Ring.{field}
 
 -- Law Fits
 
@@ -117,7 +118,7 @@ zeros_silent : counted (step_lines 0 0 0 0) ≡ []
 unfolding step_lines path_lines
 zeros_silent = refl
 
-zeros_hold : bit 0 ≡ 0
+zeros_hold : (bit field) 0 ≡ 0
 unfolding bit
 zeros_hold = refl
 
@@ -131,7 +132,7 @@ pair_quiet = (record { holds = (zeros_hold, tt); silent = zeros_silent }, (recor
 -- Law Timed
 
 -- the flag is 0 or 1
-pub flag_of : (flag : ℕ) → flag < modulus → bit flag ≡ 0 → (flag ≡ 0) ⊎ (flag ≡ 1)
+pub flag_of : (flag : ℕ) → flag < modulus → bit field flag ≡ 0 → (flag ≡ 0) ⊎ (flag ≡ 1)
 unfolding bit
 flag_of flag low h = boolean flag low h
 
@@ -140,11 +141,11 @@ unfolding step_lines path_lines
 silent pc time flag x none = counted_none (step_lines pc time flag x) (none, (none, (none, (none, tt))))
 
 -- what the row says is its path, and then the question
-pub says : (pc time flag x : ℕ) → flag ≡ 1 → counted (step_lines pc time flag x) ≡ counted (path_lines flag pc time (field_add pc x) 1 (step_numbers pc flag)) ++ (sent 6 1 (x ∷ []) ∷ [])
+pub says : (pc time flag x : ℕ) → flag ≡ 1 → counted (step_lines pc time flag x) ≡ counted (path_lines field flag pc time (field_add pc x) 1 (step_numbers pc flag)) ++ (sent 6 1 (x ∷ []) ∷ [])
 unfolding step_lines
 says pc time flag x one =
-    counted-append (path_lines flag pc time (field_add pc x) 1 (step_numbers pc flag)) (sent 6 flag (x ∷ []) ∷ [])
-    ∙ ap (λ (f : ℕ). counted (path_lines flag pc time (field_add pc x) 1 (step_numbers pc flag)) ++ counted (sent 6 f (x ∷ []) ∷ [])) one
+    counted-append (path_lines field flag pc time (field_add pc x) 1 (step_numbers pc flag)) (sent 6 flag (x ∷ []) ∷ [])
+    ∙ ap (λ (f : ℕ). counted (path_lines field flag pc time (field_add pc x) 1 (step_numbers pc flag)) ++ counted (sent 6 f (x ∷ []) ∷ [])) one
 
 -- a step with an event more, which is on none of the machine's buses
 step_more : (slots bits : ℕ) (instr : VmInstr) (time next : ℕ) (accesses : List Touched) (events more : List Event) → on_bus 0 more ≡ [] → on_bus 1 more ≡ [] → on_bus 2 more ≡ []
@@ -185,7 +186,7 @@ pub record Stepped (pc time flag x : ℕ) : Type 0 where
 program : (pc time flag x : ℕ) → flag ≡ 1 → Good (counted (step_lines pc time flag x)) → IsInstruction (step_numbers pc flag)
 unfolding step_lines
 program pc time flag x one good =
-    let path = path_lines flag pc time (field_add pc x) 1 (step_numbers pc flag) in
+    let path = path_lines field flag pc time (field_add pc x) 1 (step_numbers pc flag) in
     let lines = all_counted_back GoodEvent (path ++ (sent 6 flag (x ∷ []) ∷ [])) good in
     path_program flag pc time (field_add pc x) 1 (step_numbers pc flag) one (all_left (λ e. e.count ≢ 0 → GoodEvent e) path (sent 6 flag (x ∷ []) ∷ []) lines)
 
@@ -193,7 +194,7 @@ pub stepped : (pc time flag x : ℕ) → time < modulus → flag ≡ 1 → Good 
 stepped pc time flag x low one good =
     let p = program pc time flag x one good in
     let nop = is_nop pc flag p.instr one p.are in
-    let path = path_lines flag pc time (field_add pc x) 1 (step_numbers pc flag) in
+    let path = path_lines field flag pc time (field_add pc x) 1 (step_numbers pc flag) in
     let s = path_step 1 24 p.instr flag pc time (field_add pc x) (step_numbers pc flag) one p.in_range p.are nop.at low in
     record {
       instr = p.instr;
@@ -203,7 +204,7 @@ stepped pc time flag x low one good =
           (step_more 1 24 p.instr time (field_add pc x) [] (counted path) (sent 6 1 (x ∷ []) ∷ []) refl refl refl s);
     }
 
-timed_row : (pc time flag x : ℕ) → time < modulus → flag < modulus → bit flag ≡ 0 → Good (counted (step_lines pc time flag x))
+timed_row : (pc time flag x : ℕ) → time < modulus → flag < modulus → bit field flag ≡ 0 → Good (counted (step_lines pc time flag x))
     → (counted (step_lines pc time flag x) ≡ []) ⊎ TimedStep (λ op. nat_eq op 39) 1 24 (counted (step_lines pc time flag x))
 timed_row pc time flag x low small holds good =
     ⊎_elim
@@ -226,7 +227,7 @@ filled_numbers : (instr : VmInstr) → InRange instr → instr.op ≡ 39 → ste
 unfolding step_numbers
 filled_numbers instr range op = sym (numbers_of-nop instr range op)
 
-one_bit : bit 1 ≡ 0
+one_bit : (bit field) 1 ≡ 0
 unfolding bit
 one_bit = refl
 
@@ -237,7 +238,7 @@ four_answered = refl
 good_step : (pc time : ℕ) → IsInstruction (step_numbers pc 1) → Good (counted (step_lines pc time 1 4))
 unfolding step_lines
 good_step pc time is =
-    let path = path_lines 1 pc time (field_add pc 4) 1 (step_numbers pc 1) in
+    let path = path_lines field 1 pc time (field_add pc 4) 1 (step_numbers pc 1) in
     all_counted_some GoodEvent (path ++ (sent 6 1 (4 ∷ []) ∷ []))
     (all_append (λ e. e.count ≢ 0 → GoodEvent e) path (sent 6 1 (4 ∷ []) ∷ []) (path_good 1 pc time (field_add pc 4) 1 (step_numbers pc 1) is)
     (λ n. good_free _ (omega arith) (omega arith) (omega arith) (omega arith), tt))
@@ -258,7 +259,7 @@ recorded done f op =
     let ends : field_add done.time 1 ≡ done.time + slots_of done.instr.op = omega (arith, time_fits 8 done.time (slots_of done.instr.op) (lit≤ tt) f.ends, slots) in
     let r = path_recorded done 1 (field_add pc 4) 1 (step_numbers pc 1) refl next (filled_numbers done.instr f.in_range op) ends shape.none in
     subst (Recorded done) (sym (says pc done.time 1 4 refl))
-    (recorded_more done (counted (path_lines 1 pc done.time (field_add pc 4) 1 (step_numbers pc 1))) (sent 6 1 (4 ∷ []) ∷ []) refl refl refl r)
+    (recorded_more done (counted (path_lines field 1 pc done.time (field_add pc 4) 1 (step_numbers pc 1))) (sent 6 1 (4 ∷ []) ∷ []) refl refl refl r)
 
 two_tables : (done : StepRecord) → nat_eq done.instr.op 39 ≡ true
     → ((done.instr.pc ∷ done.time ∷ 1 ∷ 4 ∷ []) ∷ []) ∷ ((4 ∷ 1 ∷ []) ∷ []) ∷ [] ≡ tables_for done pair.parts

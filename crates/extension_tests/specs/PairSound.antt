@@ -22,6 +22,7 @@ use Rattle.air_core.specs.ExtensionLaws.{ExtensionSound, SoundRow}
 use Rattle.air_core.proofs.BalanceLemmas.{member_of_total, test_of_there}
 use Rattle.extension_tests.specs.Pair.{pair, step_sheet, answer_sheet, step_lines, step_numbers, answer_constraint}
 use Rattle.extension_tests.specs.PairLaws.{stepped, flag_of, silent, says, IsNop}
+use Rattle.air_core.specs.Ring.{field}
 
 -- what is received on bus 6 is 4
 record GivesFour (e : Event) : Type 0 where
@@ -84,7 +85,7 @@ asked_is_four events gives x even some =
 -- the question of a valid row counts
 asks : (pc time flag x : ℕ) → flag ≡ 1 → 0 < total Send 6 (x ∷ []) (counted (step_lines pc time flag x))
 asks pc time flag x one =
-    let path = counted (path_lines flag pc time (field_add pc x) 1 (step_numbers pc flag)) in
+    let path = counted (path_lines field flag pc time (field_add pc x) 1 (step_numbers pc flag)) in
     let question = sent 6 1 (x ∷ []) in
     let here : is_at Send 6 (x ∷ []) question ≡ true = test_of_there Send 6 (x ∷ []) question (record { bus_is = refl; side_is = refl; tuple_is = refl }) in
     let counts : amount_at Send 6 (x ∷ []) question ≡ 1 = rw here refl in
@@ -97,7 +98,7 @@ meaning pc x instr is low four =
     let next : instr.pc + 4 ≡ field_add pc x = rw (is.at, four) (omega (arith, low)) in
     ([], means_of-nop instr [] [] is.op low ∙ rw next refl)
 
-sound_row : (pc time flag x : ℕ) → time < modulus → flag < modulus → bit flag ≡ 0 → Good (counted (step_lines pc time flag x)) → (flag ≡ 1 → x ≡ 4)
+sound_row : (pc time flag x : ℕ) → time < modulus → flag < modulus → bit field flag ≡ 0 → Good (counted (step_lines pc time flag x)) → (flag ≡ 1 → x ≡ 4)
     → (counted (step_lines pc time flag x) ≡ []) ⊎ SoundStep (λ op. nat_eq op 39) 1 24 (counted (step_lines pc time flag x))
 sound_row pc time flag x low small holds good four =
     ⊎_elim

@@ -4,3 +4,4 @@ pub mod SumLaw
 pub mod SumHolds
 pub mod BitLaws
 pub mod LookupLaws
+pub mod WordLookups

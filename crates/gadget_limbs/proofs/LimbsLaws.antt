@@ -33,11 +33,11 @@ number_of_below (x ∷ xs) b = rw pow-suc (omega (arith, b.0, number_of_below xs
 pub number_is_word : (a b c d : ℕ) → number_of (a ∷ b ∷ c ∷ d ∷ []) ≡ word_of_limbs (a ∷ b ∷ c ∷ d ∷ [])
 number_is_word a b c d = omega arith
 
-pub list_is_word : (w : Limbs) → number_of (list_of w) ≡ word_of_limbs (list_of w)
+pub list_is_word : (w : Limbs ℕ) → number_of (list_of w) ≡ word_of_limbs (list_of w)
 unfolding list_of
 list_is_word w = number_is_word w.x0 w.x1 w.x2 w.x3
 
-pub word_below : (w : Limbs) → IsBytes (list_of w) → word_of_limbs (list_of w) < 2 ^ 32
+pub word_below : (w : Limbs ℕ) → IsBytes (list_of w) → word_of_limbs (list_of w) < 2 ^ 32
 word_below w h = word_of_limbs-lt (list_of w) (λ i low. byte_at (list_of w) i h)
 
 -- four bytes are the limbs of their word

@@ -7,5 +7,5 @@ mod sum;
 #[cfg(test)]
 mod tests;
 
-pub use lookup::{OperationFlags, looked_up};
+pub use lookup::{OperationFlags, emit_lookups, looked_up};
 pub use sum::first_broken;

@@ -1,5 +1,6 @@
 //! ADD: the sum of two numbers by their limbs.
 
+ghost use Rattle.air_core.specs.Ring.{field};
 ghost use Rattle.std.specs.Prelude.{◌≡◌, ℕ, ◌+◌, ◌<◌, ◌^◌, length};
 ghost use Rattle.air_core.specs.First.{first_from};
 ghost use Rattle.gadget_limbs.specs.Sum.{sum_constraints, carry_out, gated_bit};
@@ -10,14 +11,14 @@ use vm_field::Fe;
 /// (x + y + carry - z) / 256
 #[tactic(auto, unfolding(crate::specs::Sum::carry_out))]
 fn carry_out(x: Fe, y: Fe, carry: Fe, z: Fe) -> Fe
-    ensures { result ≡ carry_out x y carry z }
+    ensures { result ≡ carry_out field x y carry z }
 {
     x.add(y).add(carry).sub(z).mul(Fe::INVERSE_OF_256)
 }
 
 #[tactic(auto, unfolding(crate::specs::Sum::gated_bit))]
 fn gated_bit(gate: Fe, carry: Fe) -> Fe
-    ensures { result ≡ gated_bit gate carry }
+    ensures { result ≡ gated_bit field gate carry }
 {
     gate.mul(bit(carry))
 }
@@ -32,7 +33,7 @@ pub fn first_broken<const N: usize>(
     sum: &[Fe; N],
 ) -> Option<u32>
     requires { from + N < 2 ^ 32 }
-    ensures { result ≡ first_from from (sum_constraints gate 0 left.now right.now sum.now) }
+    ensures { result ≡ first_from from (sum_constraints field gate 0 left.now right.now sum.now) }
 {
     let mut carry = Fe::ZERO;
     for i in 0..N {

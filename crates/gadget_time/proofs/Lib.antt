@@ -1,3 +1,2 @@
-pub mod ToldLaws
-pub mod Filled
 pub mod Touches
+pub mod Row

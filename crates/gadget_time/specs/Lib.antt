@@ -1,2 +1,5 @@
 pub mod Told
 pub mod Laws
+pub mod Form
+pub mod FormLaws
+pub mod lemmas

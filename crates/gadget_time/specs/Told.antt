@@ -1,9 +1,10 @@
 -- What a row of an instruction table says: its path, its accesses, and other events.
 use Rattle.std.specs.Prelude.{◌≡◌, ℕ, ◌+◌, ◌-◌, ◌/◌, ◌%◌, ◌^◌, ◌<◌, cond, nat_eq, List, [], ◌∷◌, ◌++◌, flat_map, Option, Some, None}
-use Rattle.vm_field.specs.Field.{modulus, field_add, field_sub, field_mul}
+use Rattle.vm_field.specs.Field.{modulus}
 use Rattle.vm_isa.specs.declared.access.TimedAccess.{TimedAccess}
-use Rattle.air_core.specs.declared.event.Event.{Event}
-use Rattle.air_core.specs.Sheet.{sent, received}
+use Rattle.air_core.specs.declared.bus.TheConstants.{MEMORY, RANGE}
+use Rattle.air_core.specs.declared.event.Side.TheVariants.{Send, Receive}
+use Rattle.air_core.specs.Ring.{Ring}
 use Rattle.air_core.specs.Path.{path_lines}
 use Rattle.air_core.specs.Step.{Touched}
 use Rattle.vm_field.specs.Limbs.{list_of}
@@ -11,63 +12,63 @@ use Rattle.gadget_time.specs.declared.touch.Touch.{Touch}
 use Rattle.gadget_time.specs.declared.touch.Gap.{Gap}
 
 -- count * (time - before - 1 - lo - 65536 * hi)
-unfoldable pub time_constraint : ℕ → ℕ → ℕ → ℕ → ℕ → ℕ
-time_constraint count time before lo hi = field_mul count (field_sub (field_sub (field_sub (field_sub time before) 1) lo) (field_mul 65536 hi))
+unfoldable pub time_constraint : {A E : Type 0} → Ring A E → A → A → A → A → A → A
+time_constraint o count time before lo hi = o.times count (o.minus (o.minus (o.minus (o.minus time before) (o.number 1)) lo) (o.times (o.number 65536) hi))
 
 -- of an access of the row of this time
-unfoldable pub touch_constraint : ℕ → Touch → ℕ
-touch_constraint time a = time_constraint a.count (field_add time a.slot) a.gap.before a.gap.lo a.gap.hi
+unfoldable pub touch_constraint : {A E : Type 0} → Ring A E → A → Touch A → A
+touch_constraint o time a = time_constraint o a.count (o.plus time a.slot) a.gap.before a.gap.lo a.gap.hi
 
 -- the four events of an access: the old word leaves the memory bus, the new one comes, and what lies
 -- between is in range
-unfoldable pub touch_lines : ℕ → ℕ → Touch → List Event
-touch_lines hi time a =
-    received 2 a.count (a.space ∷ a.pointer ∷ a.old.x0 ∷ a.old.x1 ∷ a.old.x2 ∷ a.old.x3 ∷ a.gap.before ∷ [])
-    ∷ sent 2 a.count (a.space ∷ a.pointer ∷ a.new.x0 ∷ a.new.x1 ∷ a.new.x2 ∷ a.new.x3 ∷ field_add time a.slot ∷ [])
-    ∷ sent 4 a.count (a.gap.lo ∷ 16 ∷ [])
-    ∷ sent 4 a.count (a.gap.hi ∷ hi ∷ [])
+unfoldable pub touch_lines : {A E : Type 0} → Ring A E → ℕ → A → Touch A → List E
+touch_lines o hi time a =
+    o.event MEMORY Receive a.count (a.space ∷ a.pointer ∷ a.old.x0 ∷ a.old.x1 ∷ a.old.x2 ∷ a.old.x3 ∷ a.gap.before ∷ [])
+    ∷ o.event MEMORY Send a.count (a.space ∷ a.pointer ∷ a.new.x0 ∷ a.new.x1 ∷ a.new.x2 ∷ a.new.x3 ∷ o.plus time a.slot ∷ [])
+    ∷ o.event RANGE Send a.count (a.gap.lo ∷ o.number 16 ∷ [])
+    ∷ o.event RANGE Send a.count (a.gap.hi ∷ o.number hi ∷ [])
     ∷ []
 
 -- the columns of an access at a time, after another
-unfoldable pub gap_filled : ℕ → ℕ → Gap
+unfoldable pub gap_filled : ℕ → ℕ → Gap ℕ
 gap_filled time before = record { before = before % modulus; lo = (time - before - 1) % 65536; hi = (time - before - 1) / 65536 }
 
 -- all that a row says
-pub record Told : Type 0 where
-  pub valid : ℕ
-  pub pc : ℕ
-  pub time : ℕ
-  pub next : ℕ
+pub record Told (A E : Type 0) : Type 0 where
+  pub valid : A
+  pub pc : A
+  pub time : A
+  pub next : A
   pub slots : ℕ
-  pub numbers : List ℕ
-  pub touches : List Touch
-  pub others : List Event
+  pub numbers : List A
+  pub touches : List (Touch A)
+  pub others : List E
 
-abbrev pub touches_lines : ℕ → ℕ → List Touch → List Event
-touches_lines hi time touches = flat_map (touch_lines hi time) touches
+abbrev pub touches_lines : {A E : Type 0} → Ring A E → ℕ → A → List (Touch A) → List E
+touches_lines o hi time touches = flat_map (touch_lines o hi time) touches
 
 -- the path, the program row and the accesses
-abbrev pub told_front : ℕ → Told → List Event
-told_front hi d = path_lines d.valid d.pc d.time d.next d.slots d.numbers ++ touches_lines hi d.time d.touches
+abbrev pub told_front : {A E : Type 0} → Ring A E → ℕ → Told A E → List E
+told_front o hi d = path_lines o d.valid d.pc d.time d.next d.slots d.numbers ++ touches_lines o hi d.time d.touches
 
 -- and the other events
-abbrev pub told_lines : ℕ → Told → List Event
-told_lines hi d = told_front hi d ++ d.others
+abbrev pub told_lines : {A E : Type 0} → Ring A E → ℕ → Told A E → List E
+told_lines o hi d = told_front o hi d ++ d.others
 
 -- the accesses that a row makes: those of count 0 are none
-abbrev pub touched : Touch → Touched
+abbrev pub touched : Touch ℕ → Touched
 touched a = record { slot = a.slot; space = a.space; pointer = a.pointer; old = list_of a.old; new = list_of a.new; before = a.gap.before }
 
-abbrev pub if_touched : Touch → List Touched
+abbrev pub if_touched : Touch ℕ → List Touched
 if_touched a = cond (nat_eq a.count 0) [] (touched a ∷ [])
 
-abbrev pub touched_of : List Touch → List Touched
+abbrev pub touched_of : List (Touch ℕ) → List Touched
 touched_of touches = flat_map if_touched touches
 
 -- Rows that were filled.
 
 -- the columns of an access are those of an access of a record, in a row of this time
-pub record MadeBy (hi time : ℕ) (t : Touch) (a : TimedAccess) : Type 0 where
+pub record MadeBy (hi time : ℕ) (t : Touch ℕ) (a : TimedAccess) : Type 0 where
   pub count : t.count ≡ 1
   pub at_time : a.time ≡ time + t.slot
   pub space : t.space ≡ a.access.space
@@ -79,11 +80,11 @@ pub record MadeBy (hi time : ℕ) (t : Touch) (a : TimedAccess) : Type 0 where
   pub ends : a.time < 2 ^ (16 + hi)
 
 -- or there is none
-abbrev pub MadeByOne : ℕ → ℕ → Touch → Option TimedAccess → Type 0
+abbrev pub MadeByOne : ℕ → ℕ → Touch ℕ → Option TimedAccess → Type 0
 MadeByOne hi time t None = t.count ≡ 0
 MadeByOne hi time t (Some a) = MadeBy hi time t a
 
-abbrev pub MadeByAll : ℕ → ℕ → List Touch → List (Option TimedAccess) → Type 0
+abbrev pub MadeByAll : ℕ → ℕ → List (Touch ℕ) → List (Option TimedAccess) → Type 0
 MadeByAll hi time [] [] = Unit {0}
 MadeByAll hi time (t ∷ ts) (o ∷ os) = MadeByOne hi time t o × MadeByAll hi time ts os
 MadeByAll hi time _ _ = ⊥

@@ -1,5 +1,6 @@
 //! What accesses say, handed over as it is made, and the constraints of their times.
 
+ghost use Rattle.air_core.specs.Ring.{field};
 ghost use Rattle.std.specs.Prelude.{◌≡◌, ℕ, ◌+◌, ◌*◌, ◌<◌, ◌≤◌, ◌^◌, [], ◌∷◌, ◌++◌, length, map, OnOk, OnErr};
 ghost use Rattle.air_core.specs.First.{first_from};
 ghost use Rattle.air_core.specs.Sheet.{counted};
@@ -11,17 +12,18 @@ use air_core::{EventSink, OutOfMemory, bus, emit_received, emit_sent};
 use vm_field::Fe;
 
 /// The old word of an access leaves the memory bus, the new one comes, and what lies between is in range,
-/// with HI bits above the lower 16.
+/// with `hi` bits above the lower 16.
 #[tactic(auto, unfolding(crate::specs::Told::touch_lines))]
-pub fn emit_touch<const HI: u32, S: EventSink>(
+pub fn emit_touch<S: EventSink>(
+    hi: u32,
     time: Fe,
     touch: &Touch,
     sink: &mut S,
 ) -> Result<(), OutOfMemory>
-    requires high { HI ≤ 13 }
+    requires high { hi ≤ 13 }
     requires room { 4 ≤ S.room sink.old }
-    ensures ok { OnOk result (Handed S.holds S.room sink.old sink.new (counted (touch_lines HI time touch.now))) }
-    ensures err { OnErr result (HandedSome S.holds S.room sink.old sink.new (counted (touch_lines HI time touch.now))) }
+    ensures ok { OnOk result (Handed S.holds S.room sink.old sink.new (counted (touch_lines field hi time touch.now))) }
+    ensures err { OnErr result (HandedSome S.holds S.room sink.old sink.new (counted (touch_lines field hi time touch.now))) }
 {
     let count = touch.count;
     let (space, pointer, old, new) = (touch.space, touch.pointer, touch.old, touch.new);
@@ -57,24 +59,25 @@ pub fn emit_touch<const HI: u32, S: EventSink>(
     emit_sent(
         bus::RANGE,
         count,
-        &[touch.gap.hi, Fe::of_u16(HI as u16)],
+        &[touch.gap.hi, Fe::of_u16(hi as u16)],
         sink,
     )
 }
 
 /// The accesses of a row of this time, however many.
-pub fn emit_touches<const HI: u32, S: EventSink>(
+pub fn emit_touches<S: EventSink>(
+    hi: u32,
     time: Fe,
     touches: &[Touch],
     sink: &mut S,
 ) -> Result<(), OutOfMemory>
-    requires high { HI ≤ 13 }
+    requires high { hi ≤ 13 }
     requires room { 4 * length touches.now ≤ S.room sink.old }
-    ensures ok { OnOk result (Handed S.holds S.room sink.old sink.new (counted (touches_lines HI time touches.now))) }
-    ensures err { OnErr result (HandedSome S.holds S.room sink.old sink.new (counted (touches_lines HI time touches.now))) }
+    ensures ok { OnOk result (Handed S.holds S.room sink.old sink.new (counted (touches_lines field hi time touches.now))) }
+    ensures err { OnErr result (HandedSome S.holds S.room sink.old sink.new (counted (touches_lines field hi time touches.now))) }
 {
     for touch in touches {
-        emit_touch::<HI, S>(time, touch, sink)?;
+        emit_touch(hi, time, touch, sink)?;
     }
     Ok(())
 }
@@ -82,7 +85,7 @@ pub fn emit_touches<const HI: u32, S: EventSink>(
 /// The place of the first access whose constraint is broken, where that of the first stands at the place `from`.
 pub fn touches_broken(from: u32, time: Fe, touches: &[Touch]) -> Option<u32>
     requires { from + length touches.now < 2 ^ 32 }
-    ensures { result ≡ first_from from (map (touch_constraint time) touches.now) }
+    ensures { result ≡ first_from from (map (touch_constraint field time) touches.now) }
 {
     let mut place = from;
     for touch in touches {

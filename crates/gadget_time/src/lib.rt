@@ -2,11 +2,15 @@
 //! before it.
 #![tactic(auto)]
 
+mod chip;
 mod emission;
+mod form;
 pub mod laws;
 #[cfg(test)]
 mod tests;
 mod touch;
 
+pub use chip::FormChip;
 pub use emission::{emit_touch, emit_touches, touches_broken};
-pub use touch::{Gap, Touch, gap_between, touch_constraint, touch_events};
+pub use form::TableForm;
+pub use touch::{Gap, Touch, gap_between, touch_constraint};

@@ -55,13 +55,13 @@ fn events(rt: HostRuntime) -> Result<(), Fail> {
         event(4, Side::Send, Tuple::of(&[1, 8])),
     ];
     let mut said = EventList::new(rt.alloc());
-    emit_touch::<8, EventList>(time, &access, &mut said)?;
+    emit_touch(8, time, &access, &mut said)?;
     assert_eq!(rt; said.as_slice(), wanted.as_slice());
     let none = touch(Fe::ZERO, gap_between(70002, 1));
     let mut said = EventList::new(rt.alloc());
-    emit_touch::<8, EventList>(time, &none, &mut said)?;
+    emit_touch(8, time, &none, &mut said)?;
     assert_eq!(rt; said.as_slice().len(), 0);
-    emit_touch::<13, EventList>(time, &access, &mut said)?;
+    emit_touch(13, time, &access, &mut said)?;
     assert_eq!(rt;
         said.as_slice()[3],
         event(4, Side::Send, Tuple::of(&[1, 13]))

@@ -3,7 +3,7 @@ use Rattle.std.proofs.Common.{◌≡◌, ℕ, List, [], ◌∷◌, length, refl,
 use Rattle.vm_field.specs.declared.limbs.Limbs.{Limbs}
 use Rattle.vm_field.specs.Limbs.{list_of, limbs_from}
 
-pub length-list_of : (w : Limbs) → length (list_of w) ≡ 4
+pub length-list_of : (w : Limbs ℕ) → length (list_of w) ≡ 4
 unfolding list_of
 length-list_of w = refl
 
@@ -18,9 +18,9 @@ list_of-from (a ∷ b ∷ c ∷ []) h = absurd (omega arith)
 list_of-from (a ∷ b ∷ c ∷ d ∷ e ∷ more) h = absurd (omega arith)
 
 -- limbs with one list are one word's
-from-list_of : (w : Limbs) → limbs_from (list_of w) ≡ w
+from-list_of : (w : Limbs ℕ) → limbs_from (list_of w) ≡ w
 unfolding limbs_from list_of
 from-list_of w = refl
 
-pub limbs_same : (v w : Limbs) → list_of v ≡ list_of w → v ≡ w
+pub limbs_same : (v w : Limbs ℕ) → list_of v ≡ list_of w → v ≡ w
 limbs_same v w e = sym (from-list_of v) ∙ ap limbs_from e ∙ from-list_of w

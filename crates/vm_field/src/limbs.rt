@@ -7,14 +7,14 @@ use crate::Fe;
 
 /// The four limbs of a word as columns, lowest first. Where the word is one of 32 bits, each is a byte.
 #[derive(Clone, Copy, Debug)]
-pub struct Limbs {
-    pub x0: Fe,
-    pub x1: Fe,
-    pub x2: Fe,
-    pub x3: Fe,
+pub struct Limbs<F = Fe> {
+    pub x0: F,
+    pub x1: F,
+    pub x2: F,
+    pub x3: F,
 }
 
-impl Limbs {
+impl Limbs<Fe> {
     pub const ZERO: Limbs = Limbs {
         x0: Fe::ZERO,
         x1: Fe::ZERO,

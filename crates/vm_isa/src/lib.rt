@@ -21,5 +21,6 @@ pub use instr::VmInstr;
 pub use meaning::{NextAccess, next_access, next_pc};
 pub use opcode::slots;
 pub use record::StepRecord;
+pub use results::result;
 pub use std::alloc::AllocError as OutOfMemory;
 pub use writes::new_word;

@@ -5,13 +5,14 @@ use Rattle.vm_field.specs.Field.{field_add}
 use Rattle.air_core.proofs.Counted.{on_err_anyway, on_err_map}
 use Rattle.air_core.proofs.Handing.{all_all, some_at}
 use Rattle.air_core.proofs.emission.emit_path.Goals as goal
+use Rattle.air_core.specs.Ring.{field}
 
 pub returns-in_err-emit_sent-clause-err : goal.returns-in_err-emit_sent-clause-err
 unfolding path_lines
 returns-in_err-emit_sent-clause-err g c =
     let a = c.args in
     let here = rw (c.add.ensures, c.of_u16.ensures) at c.in_err-emit_sent.ensures.err in
-    on_err_anyway _ (some_at 1 (path_lines a.valid a.pc a.time a.next a.slots a.numbers.now) c.in_ok-emit_received.ensures.ok here)
+    on_err_anyway _ (some_at 1 (path_lines field a.valid a.pc a.time a.next a.slots a.numbers.now) c.in_ok-emit_received.ensures.ok here)
 
 pub returns-clause-err : goal.returns-clause-err
 unfolding path_lines
@@ -19,4 +20,4 @@ returns-clause-err g c =
     let a = c.args in
     let second = rw (c.add.ensures, c.of_u16.ensures) at c.in_ok-emit_sent.ensures.ok in
     let both = all_all (received 0 a.valid (a.pc ∷ a.time ∷ []) ∷ []) (sent 0 a.valid (a.next ∷ field_add a.time a.slots ∷ []) ∷ []) c.in_ok-emit_received.ensures.ok second in
-    on_err_map c.emit_sent-2.result (some_at 2 (path_lines a.valid a.pc a.time a.next a.slots a.numbers.now) both) c.emit_sent-2.ensures.err
+    on_err_map c.emit_sent-2.result (some_at 2 (path_lines field a.valid a.pc a.time a.next a.slots a.numbers.now) both) c.emit_sent-2.ensures.err

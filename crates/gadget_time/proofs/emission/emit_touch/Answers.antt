@@ -4,18 +4,19 @@ use Rattle.gadget_time.specs.Told.{touch_lines}
 use Rattle.air_core.proofs.Counted.{on_err_anyway, on_err_map}
 use Rattle.air_core.proofs.Handing.{all_all, some_at}
 use Rattle.gadget_time.proofs.emission.emit_touch.Goals as goal
+use Rattle.air_core.specs.Ring.{field}
 
 pub returns-in_err-emit_sent-clause-err : goal.returns-in_err-emit_sent-clause-err
 unfolding touch_lines
 returns-in_err-emit_sent-clause-err g c =
-    let lines = touch_lines g.row.HI c.args.time c.args.touch.now in
+    let lines = touch_lines field c.args.hi c.args.time c.args.touch.now in
     let here = rw (c.add.ensures) at c.in_err-emit_sent.ensures.err in
     on_err_anyway _ (some_at 1 lines c.in_ok-emit_received.ensures.ok here)
 
 pub returns-in_err-emit_sent-2-clause-err : goal.returns-in_err-emit_sent-2-clause-err
 unfolding touch_lines
 returns-in_err-emit_sent-2-clause-err g c =
-    let lines = touch_lines g.row.HI c.args.time c.args.touch.now in
+    let lines = touch_lines field c.args.hi c.args.time c.args.touch.now in
     let second = rw (c.add.ensures) at c.in_ok-emit_sent.ensures.ok in
     let both = all_all (take 1 lines) (take 1 (drop 1 lines)) c.in_ok-emit_received.ensures.ok second in
     let here = rw (c.of_u16.ensures) at c.in_err-emit_sent-2.ensures.err in
@@ -24,7 +25,7 @@ returns-in_err-emit_sent-2-clause-err g c =
 pub returns-clause-err : goal.returns-clause-err
 unfolding touch_lines
 returns-clause-err g c =
-    let lines = touch_lines g.row.HI c.args.time c.args.touch.now in
+    let lines = touch_lines field c.args.hi c.args.time c.args.touch.now in
     let second = rw (c.add.ensures) at c.in_ok-emit_sent.ensures.ok in
     let both = all_all (take 1 lines) (take 1 (drop 1 lines)) c.in_ok-emit_received.ensures.ok second in
     let third = rw (c.of_u16.ensures) at c.in_ok-emit_sent-2.ensures.ok in

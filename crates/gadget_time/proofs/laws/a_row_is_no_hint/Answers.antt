@@ -1,4 +1,4 @@
-use Rattle.gadget_time.proofs.ToldLaws.{told_no_hint}
+use Rattle.gadget_time.specs.lemmas.ToldLaws.{told_no_hint}
 use Rattle.gadget_time.proofs.laws.a_row_is_no_hint.Goals as goal
 
 pub returns : goal.returns

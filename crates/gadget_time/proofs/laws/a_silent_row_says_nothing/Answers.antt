@@ -1,4 +1,4 @@
-use Rattle.gadget_time.proofs.ToldLaws.{told_silent}
+use Rattle.gadget_time.specs.lemmas.ToldLaws.{told_silent}
 use Rattle.gadget_time.proofs.laws.a_silent_row_says_nothing.Goals as goal
 
 pub returns : goal.returns

@@ -1,4 +1,4 @@
-use Rattle.gadget_time.proofs.ToldLaws.{times_apart}
+use Rattle.gadget_time.specs.lemmas.ToldLaws.{times_apart}
 use Rattle.gadget_time.proofs.laws.accesses_are_apart.Goals as goal
 
 pub returns : goal.returns

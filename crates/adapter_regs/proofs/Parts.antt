@@ -1,0 +1,43 @@
+-- The constraints of the form with immediates and without, and its columns behind the flags, part behind part.
+use Rattle.std.proofs.Common.{◌≡◌, ℕ, ◌+◌, Bool, true, false, cond, List, [], ◌∷◌, ◌++◌, length, take, refl, sym, ap, ◌∙◌, arith, length-append, append_assoc}
+use Rattle.std.proofs.lemmas.List.{take_all}
+use Rattle.vm_field.specs.Limbs.{list_of}
+use Rattle.air_core.specs.First.{first_from, or_else}
+use Rattle.air_core.specs.Ring.{field}
+use Rattle.air_core.proofs.FirstLemmas.{first_from-part}
+use Rattle.adapter_regs.specs.declared.regs.Regs.{Regs}
+use Rattle.adapter_regs.specs.Regs.{immediate_constraints, regs_cells, time_cells, words_from}
+
+length-immediate : (r : Regs ℕ) → length (immediate_constraints field r) ≡ 4
+unfolding immediate_constraints
+length-immediate r = refl
+
+pub count_with : (b : Bool) (r : Regs ℕ) (own : List ℕ) (n : ℕ) → b ≡ true → length own ≡ n → length (cond b (immediate_constraints field r) [] ++ own) ≡ 4 + n
+count_with true r own n e h = omega (arith, length-append (immediate_constraints field r) own, length-immediate r, h)
+count_with false r own n e h = absurd (cc)
+
+pub count_without : (b : Bool) (r : Regs ℕ) (own : List ℕ) (n : ℕ) → b ≡ false → length own ≡ n → length (cond b (immediate_constraints field r) [] ++ own) ≡ n
+count_without true r own n e h = absurd (cc)
+count_without false r own n e h = h
+
+pub first_with : (b : Bool) (from : ℕ) (r : Regs ℕ) (own : List ℕ) → b ≡ true
+    → first_from from (cond b (immediate_constraints field r) [] ++ own) ≡ or_else (first_from from (immediate_constraints field r)) (first_from (from + 4) own)
+first_with true from r own e = first_from-part from (from + 4) (immediate_constraints field r) own (omega (arith, length-immediate r))
+first_with false from r own e = absurd (cc)
+
+pub first_without : (b : Bool) (from : ℕ) (r : Regs ℕ) (own : List ℕ) → b ≡ false → first_from from (cond b (immediate_constraints field r) [] ++ own) ≡ first_from from own
+first_without true from r own e = absurd (cc)
+first_without false from r own e = refl
+
+pub length-cells_of : (b : Bool) (r : Regs ℕ) → length (regs_cells b r) ≡ words_from b + 12
+unfolding regs_cells list_of
+length-cells_of true r = refl
+length-cells_of false r = refl
+
+pub length-times : (r : Regs ℕ) → length (time_cells r) ≡ 9
+unfolding time_cells
+length-times r = refl
+
+-- three parts, each written behind the one before
+pub three_parts : (first second last cells own times : List ℕ) (i j : ℕ) → take i first ≡ cells → take j second ≡ take i first ++ own → last ≡ take j second ++ times → last ≡ cells ++ (own ++ times)
+three_parts first second last cells own times i j a b c = c ∙ ap (λ (t : List ℕ). t ++ times) (b ∙ ap (λ (t : List ℕ). t ++ own) a) ∙ append_assoc cells own times

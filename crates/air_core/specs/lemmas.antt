@@ -1,0 +1,2 @@
+pub mod OneHot
+pub mod Cells

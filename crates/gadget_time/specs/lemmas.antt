@@ -1,0 +1,5 @@
+pub mod ToldLaws
+pub mod Filled
+pub mod FormSound
+pub mod FormBounds
+pub mod FormComplete
