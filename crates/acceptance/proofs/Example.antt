@@ -1,6 +1,6 @@
 -- Files that are accepted: of no steps, and of one no-operation.
-use Rattle.std.proofs.Common.{◌≡◌, ℕ, zero, suc, ◌+◌, ◌/◌, ◌^◌, ◌<◌, Bool, true, false, ◌&&◌, nat_eq, List, [], ◌∷◌, ◌++◌, length, map, flat_map, replicate, slice_get, refl, sym, ap, ◌∙◌, subst, arith, Contains, lit<, lit≤, pow_mono, ◌≤◌, ◌*◌}
-use Rattle.std.specs.Prelude.{if◌then◌else◌, slice_index, Option}
+use Rattle.std.proofs.Common.{◌≡◌, ℕ, zero, suc, ◌+◌, ◌/◌, ◌^◌, ◌<◌, Bool, true, false, ◌&&◌, nat_eq, List, [], ◌∷◌, ◌++◌, length, map, replicate, slice_get, refl, sym, ap, ◌∙◌, subst, arith, Contains, lit<, lit≤, pow_mono, ◌≤◌, ◌*◌}
+use Rattle.std.specs.Prelude.{slice_index, Option}
 use Rattle.std.specs.Option.{option_map}
 use Rattle.std.proofs.lemmas.Option.{slice_get_within}
 use Rattle.std.specs.List.{AllByRecursion}
@@ -21,10 +21,8 @@ use Rattle.vm_transpile.proofs.RowOrder.{rises_few}
 use Rattle.vm_transpile.proofs.Texts.{program_rises}
 use Rattle.vm_field.specs.Field.{field_add, modulus}
 use Rattle.vm_trace.specs.declared.page.TheConstants.{PUBLIC_LABEL}
-use Rattle.vm_trace.specs.Canonical.{Shape, IsNumber, AreTables, IsTable, HasWidth, IsCountList, IsDigest, IsCanonical, IsCanonicalSegment, IsCanonicalClaim, height_of}
-use Rattle.vm_trace.specs.File.{Segment, File}
-use Rattle.vm_trace.specs.Limits.{Limits, limits_of}
-use Rattle.vm_trace.specs.Pages.{IsLeaf}
+use Rattle.vm_trace.specs.Canonical.{IsNumber, AreTables, IsCountList, IsDigest, IsCanonical}
+use Rattle.vm_trace.specs.Limits.{limits_of}
 use Rattle.vm_trace.specs.declared.count.CountEntry.{CountEntry}
 use Rattle.air_core.specs.declared.event.Event.{Event}
 use Rattle.air_core.specs.declared.event.Side.{Side}
@@ -48,9 +46,9 @@ use Rattle.page_tree.proofs.CompleteLemmas.{is_complete, replaced-same, root-sam
 use Rattle.page_tree.proofs.PartLemmas.{needed-le}
 use Rattle.page_tree.proofs.PathLemmas.{length-path_from, climb-path_of}
 use Rattle.page_tree.proofs.StartLemmas.{start_map-out}
-use Rattle.acceptance.specs.Accepts.{ClaimHolds, Accepts, IsPublic, shape_of}
-use Rattle.acceptance.specs.Events.{entry_events, received_row, received_on}
-use Rattle.acceptance.specs.Example.{BeginsStill, IsVersion, still_file, still_segment, resting_file, stepping_file}
+use Rattle.acceptance.specs.Accepts.{ClaimHolds, IsPublic, shape_of}
+use Rattle.acceptance.specs.Events.{received_row, received_on}
+use Rattle.acceptance.specs.Example.{BeginsStill, still_file, still_segment}
 use Rattle.acceptance.specs.Holds.{SegmentHolds, most_slots}
 use Rattle.acceptance.specs.Laws.{RestingFilesAreAccepted, RestingClaimsHold, SteppingFilesAreAccepted}
 use Rattle.acceptance.proofs.CanonicalTrees.{hash_canonical, siblings_canonical, path_canonical}

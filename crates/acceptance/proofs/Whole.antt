@@ -1,6 +1,6 @@
 -- Segments one after the other are one run, and it is the machine's.
-use Rattle.std.proofs.Common.{◌≡◌, ℕ, zero, suc, ◌+◌, ◌<◌, ◌^◌, Bool, true, false, List, [], ◌∷◌, ◌++◌, length, map, get_or, refl, sym, ap, ◌∙◌, subst, arith, inl, inr, ⊎_elim, Contains}
-use Rattle.std.specs.Prelude.{All, flat_map, if◌then◌else◌}
+use Rattle.std.proofs.Common.{◌≡◌, ℕ, zero, suc, ◌+◌, ◌<◌, ◌^◌, List, [], ◌∷◌, ◌++◌, length, map, get_or, refl, sym, ap, ◌∙◌, subst, arith, inl, inr, ⊎_elim, Contains}
+use Rattle.std.specs.Prelude.{All}
 use Rattle.std.specs.List.{AllByRecursion}
 use Rattle.std.specs.List.Sorted.{IsStrictlyIncreasing}
 use Rattle.std.proofs.lemmas.List.Elements.{All-from_recursion, Contains-get_or}
@@ -12,7 +12,6 @@ use Rattle.vm_transpile.specs.Program.{program_of}
 use Rattle.vm_transpile.specs.Start.{vm_start, start_blocks}
 use Rattle.vm_transpile.proofs.Ranges.{rows_in_range}
 use Rattle.vm_transpile.proofs.RunsAlike.{runs_end_alike}
-use Rattle.air_core.specs.declared.hint.HintWord.{HintWord}
 use Rattle.air_core.specs.ExtensionLaws.{ExtensionFits, ExtensionBuses, ExtensionTimed, ExtensionSound}
 use Rattle.air_core.specs.ListLemmas.{all_append, all_weaker}
 use Rattle.air_core.specs.System.{System}

@@ -6,6 +6,7 @@ use Rattle.vm_isa.specs.declared.instr.VmInstr.{VmInstr}
 use Rattle.vm_isa.specs.Instr.{numbers_of}
 use Rattle.vm_trace.specs.declared.count.CountEntry.{CountEntry}
 use Rattle.vm_trace.specs.File.{Segment}
+use Rattle.air_core.specs.declared.bus.TheConstants.{EXECUTION, PROGRAM, XOR, RANGE, SHA_CONSTANTS}
 use Rattle.air_core.specs.declared.event.Event.{Event}
 use Rattle.air_core.specs.Sheet.{received, row_events}
 use Rattle.air_core.specs.System.{System, Part, all_events}
@@ -21,9 +22,9 @@ start_of s = record { pc = s.pc_start; time = 1 }
 abbrev pub end_of : Segment → Point
 end_of s = record { pc = s.pc_end; time = s.end_time }
 
--- the row at a place of the fixed table of a bus: the program on bus 1, and the lookup tables on 3 to 5
+-- the row at a place of the fixed table of a bus: the program on its bus, and the lookup tables on theirs
 abbrev pub fixed_row : List VmInstr → ℕ → ℕ → Option (List ℕ)
-fixed_row program bus place = if nat_eq bus 1 then option_map numbers_of (slice_get program place) else row_at bus place
+fixed_row program bus place = if nat_eq bus PROGRAM then option_map numbers_of (slice_get program place) else row_at bus place
 
 -- a row is received as often as its entry says; where no row stands, nothing is
 abbrev pub received_row : ℕ → ℕ → Option (List ℕ) → List Event
@@ -40,7 +41,8 @@ received_on program bus entries = flat_map (entry_events program bus) entries
 -- what the fixed tables receive
 abbrev pub counted_events : List VmInstr → Segment → List Event
 counted_events program s =
-    received_on program 1 s.program ++ (received_on program 3 s.xor ++ (received_on program 4 s.range ++ received_on program 5 s.constants))
+    received_on program PROGRAM s.program
+    ++ (received_on program XOR s.xor ++ (received_on program RANGE s.range ++ received_on program SHA_CONSTANTS s.constants))
 
 -- all events: the connector's, those of the rows of all tables, of the fixed tables, and of the pages
 abbrev pub segment_events : System → List VmInstr → Segment → List Event
@@ -57,7 +59,7 @@ said_by_rows (p ∷ ps) (rows ∷ tables) = map (row_events p.sheet) rows ++ sai
 
 -- a row is valid where it says something on the execution bus
 abbrev pub is_valid : List Event → Bool
-is_valid events = list_any (λ e. nat_eq e.bus 0) events
+is_valid events = list_any (λ e. nat_eq e.bus EXECUTION) events
 
 abbrev pub valid_rows : System → Segment → ℕ
 valid_rows x s = count_by is_valid (said_by_rows x.parts s.tables)

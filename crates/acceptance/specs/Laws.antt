@@ -1,5 +1,5 @@
 -- What an accepted file says. Each law is the contract of a function in src/laws.rt.
-use Rattle.std.specs.Prelude.{◌≡◌, ℕ, ◌+◌, ◌<◌, ◌≤◌, ◌⊎◌, List, [], ◌++◌, length, All}
+use Rattle.std.specs.Prelude.{◌≡◌, ℕ, ◌+◌, ◌<◌, ◌≤◌, ◌⊎◌, List, [], length, All}
 use Rattle.std.specs.List.{AllByRecursion}
 use Rattle.elf_image.specs.Image.{HasImage}
 use Rattle.elf_image.specs.Loaded.{Loaded}

@@ -1,5 +1,5 @@
 -- Members of a list, by cases and by place.
-use Rattle.std.proofs.Common.{◌≡◌, List, [], ◌∷◌, suc, refl, arith, inl, inr, Contains}
+use Rattle.std.proofs.Common.{List, [], ◌∷◌, suc, arith, inl, inr, Contains}
 use Rattle.std.proofs.lemmas.List.Elements.{All-contains, All-from_recursion}
 use Rattle.air_core.specs.Orders.{Member}
 use Rattle.air_core.proofs.ElementLemmas.{all_members}

@@ -2,3 +2,5 @@ pub mod Texts
 pub mod Steps
 pub mod Entries
 pub mod Whole
+pub mod ExactItems
+pub mod ExactFile

@@ -1,7 +1,7 @@
 -- What a file of version 0 says, its bytes, and which files are of the form.
 use Rattle.std.specs.Prelude.{◌≡◌, ℕ, ◌≤◌, ◌<◌, List, [], ◌∷◌, ◌++◌, length}
 use Rattle.std.specs.List.{AllByRecursion, flat_map}
-use Rattle.std.specs.Int.{w32, to_le_bytes}
+pub use Rattle.table_format.specs.Texts.{number_text, entry_text}
 pub use Rattle.vm_trace.specs.Canonical.{IsNumber, IsElement, height_of, IsEntry, AreEntries}
 use Rattle.table_format.specs.declared.Connector.{Connector}
 use Rattle.vm_trace.specs.declared.count.CountEntry.{CountEntry}
@@ -25,15 +25,8 @@ value_of file = record {
 
 -- The bytes.
 
--- a number is four bytes, the lowest first
-abbrev pub number_text : ℕ → List ℕ
-number_text n = to_le_bytes w32 n
-
 abbrev pub row_text : List ℕ → List ℕ
 row_text row = flat_map number_text row
-
-abbrev pub entry_text : CountEntry → List ℕ
-entry_text e = number_text e.place ++ number_text e.count
 
 abbrev pub connector_row : Connector → List ℕ
 connector_row c = c.pc_start ∷ c.pc_end ∷ c.end_time ∷ []

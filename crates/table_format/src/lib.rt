@@ -7,12 +7,14 @@ ghost use Rattle.vm_host.specs.declared.HostError.TheVariants.{OutOfMemory};
 
 pub mod laws;
 mod reader;
+mod reason;
 mod source;
 #[cfg(test)]
 mod tests;
 mod writer;
 
 pub use reader::read_file;
+pub use reason::Reason;
 use std::alloc::{AllocError, AllocFailed};
 use thiserror::Error;
 use vm_field::Fe;

@@ -1,5 +1,5 @@
 -- What a file of tables says, as a value. The bytes that spell it are another matter.
-use Rattle.std.specs.Prelude.{ℕ, Bool, List, [], map}
+use Rattle.std.specs.Prelude.{ℕ, Bool, List}
 use Rattle.vm_trace.specs.declared.count.CountEntry.{CountEntry}
 use Rattle.vm_trace.specs.declared.page.Touched.{Touched}
 
