@@ -33,6 +33,9 @@ pub struct Touch<F = Fe> {
 fn time_constraint(count: Fe, time: Fe, gap: &Gap) -> Fe
     ensures { result ≡ time_constraint field count time gap.now.before gap.now.lo gap.now.hi }
 {
+    if count == Fe::ZERO {
+        return Fe::ZERO;
+    }
     let upper = element(65536).mul(gap.hi);
     count.mul(time.sub(gap.before).sub(Fe::ONE).sub(gap.lo).sub(upper))
 }
