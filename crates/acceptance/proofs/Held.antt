@@ -11,17 +11,18 @@ use Rattle.vm_isa.specs.declared.instr.VmInstr.{VmInstr}
 use Rattle.vm_transpile.specs.Program.{program_of}
 use Rattle.air_core.specs.ListLemmas.{all_weaker}
 use Rattle.air_core.specs.System.{System}
-use Rattle.offline_memory.specs.declared.page.Touched.{Touched}
+use Rattle.vm_trace.specs.declared.page.Touched.{Touched}
 use Rattle.page_tree.specs.Tree.{Leaves, IsNode}
 use Rattle.page_tree.specs.Chain.{IsHashed}
 use Rattle.page_tree.specs.Opening.{AreDigests, opening_nodes}
-use Rattle.page_tree.specs.Parts.{label_of, labels_of, bytes_at, old_at, new_at}
+use Rattle.page_tree.specs.Parts.{label_of, labels_of, labelled_bytes, old_bytes_at, new_bytes_at}
 use Rattle.page_tree.specs.Path.{climbed, pair_with}
 use Rattle.page_tree.specs.Start.{start_map}
 use Rattle.page_tree.proofs.SizeLemmas.{length-IsNodeBelow, hashed-lengths}
 use Rattle.page_tree.proofs.StartLemmas.{length-start_map}
-use Rattle.acceptance.specs.File.{Segment}
-use Rattle.acceptance.specs.Accepts.{opening_of, public_label}
+use Rattle.vm_trace.specs.File.{Segment}
+use Rattle.vm_trace.specs.declared.page.TheConstants.{PUBLIC_LABEL}
+use Rattle.acceptance.specs.Accepts.{opening_of}
 use Rattle.acceptance.specs.Holds.{IsMachinePage, SegmentHolds}
 use Rattle.acceptance.specs.Laws.{HeldNodesHave64Bytes}
 
@@ -36,24 +37,24 @@ in_tree image x is = length-IsNodeBelow (start_map image) 25 0 x (λ j h. length
 
 -- ---- openings
 
-by_label : (side : Touched → List ℕ) (page : Touched) (pages : List Touched) (j : ℕ) (b : Bool) → nat_eq page.label j ≡ b → Has64 (side page) → (Contains (map label_of pages) j → Has64 (bytes_at label_of side [] pages j))
-    → Contains (map label_of (page ∷ pages)) j → Has64 (if b then side page else bytes_at label_of side [] pages j)
+by_label : (side : Touched → List ℕ) (page : Touched) (pages : List Touched) (j : ℕ) (b : Bool) → nat_eq page.label j ≡ b → Has64 (side page) → (Contains (map label_of pages) j → Has64 (labelled_bytes label_of side [] pages j))
+    → Contains (map label_of (page ∷ pages)) j → Has64 (if b then side page else labelled_bytes label_of side [] pages j)
 by_label side page pages j true is here rest h = here
 by_label side page pages j false is here rest (zero, low, at) = let same : nat_eq page.label j ≡ true = eq-eqb page.label j at in absurd (cc)
 by_label side page pages j false is here rest (suc k, low, at) = rest (k, omega (arith, low), at)
 
-page_sizes : (side : Touched → List ℕ) (pages : List Touched) → AllByRecursion (λ page. Has64 (side page)) pages → (j : ℕ) → Contains (map label_of pages) j → Has64 (bytes_at label_of side [] pages j)
-unfolding bytes_at
+page_sizes : (side : Touched → List ℕ) (pages : List Touched) → AllByRecursion (λ page. Has64 (side page)) pages → (j : ℕ) → Contains (map label_of pages) j → Has64 (labelled_bytes label_of side [] pages j)
+unfolding labelled_bytes
 page_sizes side [] sizes j h = absurd (omega (arith, h.1))
 page_sizes side (page ∷ pages) sizes j h = by_label side page pages j (nat_eq page.label j) refl sizes.0 (page_sizes side pages sizes.1 j) h
 
-old_sizes : (pages : List Touched) → AllByRecursion IsMachinePage pages → (j : ℕ) → Contains (labels_of pages) j → Has64 (old_at pages j)
-unfolding labels_of old_at
-old_sizes pages h = page_sizes (λ p. p.old) pages (all_weaker IsMachinePage (λ (page : Touched). Has64 page.old) (λ page p. p.old_size) pages h)
+old_sizes : (pages : List Touched) → AllByRecursion IsMachinePage pages → (j : ℕ) → Contains (labels_of pages) j → Has64 (old_bytes_at pages j)
+unfolding labels_of old_bytes_at
+old_sizes pages h = page_sizes (λ p. p.old) pages (all_weaker IsMachinePage (λ (page : Touched). Has64 page.old) (λ page p. p.whole.old.size) pages h)
 
-new_sizes : (pages : List Touched) → AllByRecursion IsMachinePage pages → (j : ℕ) → Contains (labels_of pages) j → Has64 (new_at pages j)
-unfolding labels_of new_at
-new_sizes pages h = page_sizes (λ p. p.new) pages (all_weaker IsMachinePage (λ (page : Touched). Has64 page.new) (λ page p. p.new_size) pages h)
+new_sizes : (pages : List Touched) → AllByRecursion IsMachinePage pages → (j : ℕ) → Contains (labels_of pages) j → Has64 (new_bytes_at pages j)
+unfolding labels_of new_bytes_at
+new_sizes pages h = page_sizes (λ p. p.new) pages (all_weaker IsMachinePage (λ (page : Touched). Has64 page.new) (λ page p. p.whole.new.size) pages h)
 
 in_opening : (labels : List ℕ) (bytes : Leaves) (siblings : List (List ℕ)) (x : List ℕ) → AreDigests siblings → ((j : ℕ) → Contains labels j → Has64 (bytes j)) → Contains (opening_nodes labels bytes siblings) x → Has64 x
 unfolding opening_nodes
@@ -62,8 +63,8 @@ in_opening labels bytes siblings x digests sizes h = All-contains Has64 _ x (has
 in_openings : (x : System) (program : List VmInstr) (ss : List Segment) (node : List ℕ) → AllByRecursion (SegmentHolds x program) ss → IsHashed (map opening_of ss) node → Has64 node
 unfolding IsHashed
 in_openings x program [] node holds h = elim h [ ]
-in_openings x program (s ∷ ss) node holds (inl h) = in_opening (labels_of s.pages) (old_at s.pages) s.siblings node holds.0.digests (old_sizes s.pages holds.0.pages) h
-in_openings x program (s ∷ ss) node holds (inr (inl h)) = in_opening (labels_of s.pages) (new_at s.pages) s.siblings node holds.0.digests (new_sizes s.pages holds.0.pages) h
+in_openings x program (s ∷ ss) node holds (inl h) = in_opening (labels_of s.pages) (old_bytes_at s.pages) s.siblings node holds.0.digests (old_sizes s.pages holds.0.pages) h
+in_openings x program (s ∷ ss) node holds (inr (inl h)) = in_opening (labels_of s.pages) (new_bytes_at s.pages) s.siblings node holds.0.digests (new_sizes s.pages holds.0.pages) h
 in_openings x program (s ∷ ss) node holds (inr (inr h)) = in_openings x program ss node holds.1 h
 
 -- ---- the public path
@@ -87,7 +88,7 @@ pub held_64 : (x : System) → HeldNodesHave64Bytes x
 held_64 x image file node accepts (inl (inl h)) = in_tree image node h
 held_64 x image file node accepts (inl (inr h)) = in_openings x (program_of image) file.segments node accepts.hold h
 held_64 x image file node accepts (inr h) =
-    All-contains Has64 (climbed public_label file.public_bytes file.path) node
-    (All-from_recursion Has64 (climbed public_label file.public_bytes file.path)
-    (path_sizes public_label file.public_bytes file.path accepts.public.size (recursion_from_All (λ d. length d ≡ 32) file.path accepts.public.digests)))
+    All-contains Has64 (climbed PUBLIC_LABEL file.public_bytes file.path) node
+    (All-from_recursion Has64 (climbed PUBLIC_LABEL file.public_bytes file.path)
+    (path_sizes PUBLIC_LABEL file.public_bytes file.path accepts.public.whole.size (recursion_from_All (λ d. length d ≡ 32) file.path accepts.public.digests)))
     h

@@ -12,5 +12,6 @@ pub mod Orders
 pub mod Segments
 pub mod Start
 pub mod Whole
+pub mod CanonicalTrees
 pub mod Example
 pub mod Held

@@ -1,13 +1,14 @@
 -- What rows send to the fixed tables stands there, where the buses balance.
-use Rattle.std.proofs.Common.{◌≡◌, ◌≢◌, ℕ, ◌<◌, ◌≤◌, Bool, true, List, [], ◌∷◌, ◌++◌, refl, sym, ap, ◌∙◌, subst, arith, inl, inr, Contains, slice_get}
+use Rattle.std.proofs.Common.{◌≡◌, ◌≢◌, ℕ, ◌<◌, ◌≤◌, Bool, true, false, nat_eq, List, [], ◌∷◌, ◌++◌, refl, sym, ap, ◌∙◌, subst, arith, inl, inr, Contains, slice_get}
 use Rattle.std.specs.Prelude.{flat_map, All, Option, Some, None}
 use Rattle.std.specs.List.{AllByRecursion}
+use Rattle.std.specs.Option.{option_map}
 use Rattle.std.proofs.lemmas.Bool.{ne_eqb}
 use Rattle.std.proofs.lemmas.List.Elements.{All-contains, All-from_recursion, Contains-get_or}
 use Rattle.std.proofs.lemmas.Option.{slice_get_within, get_or_from_slice_get}
 use Rattle.vm_isa.specs.declared.instr.VmInstr.{VmInstr}
 use Rattle.vm_isa.specs.Instr.{InRange, numbers_of}
-use Rattle.air_core.specs.declared.count.CountEntry.{CountEntry}
+use Rattle.vm_trace.specs.declared.count.CountEntry.{CountEntry}
 use Rattle.air_core.specs.declared.event.Event.{Event}
 use Rattle.air_core.specs.declared.event.Side.{Side}
 use Rattle.air_core.specs.declared.event.Side.TheVariants.{Send, Receive}
@@ -23,14 +24,16 @@ use Rattle.air_core.proofs.BalanceLemmas.{test_of_there, member_of_total, total-
 use Rattle.air_core.proofs.ElementLemmas.{all_flat_map, all_from_members, all_at, member_left, member_right}
 use Rattle.exec_path.specs.PathEvents.{connector_events}
 use Rattle.lookup_tables.specs.Places.{IsRowAt}
-use Rattle.offline_memory.specs.declared.page.Touched.{Touched}
+use Rattle.lookup_tables.proofs.RowsAt.{row_at-is}
+use Rattle.vm_trace.specs.declared.page.Touched.{Touched}
 use Rattle.offline_memory.specs.Memory.{Block}
 use Rattle.offline_memory.specs.MemoryEvents.{block_events, boundary_events}
 use Rattle.offline_memory.specs.Pages.{page_blocks}
 use Rattle.acceptance.specs.OneRun.{NotOn}
-use Rattle.acceptance.specs.File.{Segment}
-use Rattle.acceptance.specs.Events.{Lookups, AreLookedUp, received_row, entry_events, counted_events, segment_events, start_of, end_of}
+use Rattle.vm_trace.specs.File.{Segment}
+use Rattle.acceptance.specs.Events.{fixed_row, received_row, entry_events, received_on, counted_events, segment_events, start_of, end_of}
 use Rattle.acceptance.proofs.EachRow.{events_any, events_each}
+use Rattle.acceptance.proofs.WholeSegment.{total_elsewhere}
 
 -- the numbers of a row of the program
 pub record ProgramTuple (program : List VmInstr) (tuple : List ℕ) : Type 0 where
@@ -54,23 +57,13 @@ pub contains_at : (program : List VmInstr) (place : ℕ) (row : VmInstr) → sli
 contains_at program place row h =
     subst (Contains program) (get_or_from_slice_get program place row row h) (Contains-get_or program place row (slice_get_within program place row h))
 
-received_at : (program : List VmInstr) (place count : ℕ) (found : Option VmInstr) → slice_get program place ≡ found → AllByRecursion (Received program) (received_row count found)
-received_at program place count None h = tt
-received_at program place count (Some row) h = (
-  λ side. record {
-    program_row = λ bus. record { row = row; stands = contains_at program place row h; is = refl };
-    xor = λ bus. absurd (omega (arith, bus));
-    range = λ bus. absurd (omega (arith, bus));
-    constant = λ bus. absurd (omega (arith, bus));
-  },
-  tt,
-)
-
-entries_received : (program : List VmInstr) (entries : List CountEntry) → AllByRecursion (Received program) (flat_map (entry_events program) entries)
-entries_received program entries =
-    all_flat_map (Received program) (entry_events program) entries
-    (all_from_members (λ (e : CountEntry). AllByRecursion (Received program) (entry_events program e)) entries
-    (λ e h. received_at program e.place e.count (slice_get program e.place) refl))
+program_stands : (program : List VmInstr) (place count : ℕ) (row : VmInstr) → slice_get program place ≡ Some row → Stands program (record { bus = 1; side = Receive; tuple = numbers_of row; count = count })
+program_stands program place count row h = record {
+  program_row = λ bus. record { row = row; stands = contains_at program place row h; is = refl };
+  xor = λ bus. absurd (omega (arith, bus));
+  range = λ bus. absurd (omega (arith, bus));
+  constant = λ bus. absurd (omega (arith, bus));
+}
 
 row_stands : (program : List VmInstr) (bus place count : ℕ) (tuple : List ℕ) → IsRowAt bus place tuple → Stands program (record { bus = bus; side = Receive; tuple = tuple; count = count })
 row_stands program bus place count tuple at = record {
@@ -80,12 +73,45 @@ row_stands program bus place count tuple at = record {
   constant = λ b. (at.constant b).row;
 }
 
-lookups_received : (program : List VmInstr) (bus : ℕ) (entries : List CountEntry) (events : List Event) → AreLookedUp bus entries events → AllByRecursion (Received program) events
-lookups_received program bus [] [] are = tt
-lookups_received program bus [] (x ∷ xs) are = elim are [ ]
-lookups_received program bus (e ∷ es) [] are = elim are [ ]
-lookups_received program bus (e ∷ es) (x ∷ xs) are =
-    (λ side. subst (Stands program) (sym are.0.is) (row_stands program bus e.place e.count are.0.tuple are.0.at), lookups_received program bus es xs are.1)
+-- on which buses something is received, and what stands there
+abbrev Fixed : List VmInstr → ℕ → Type 0
+Fixed program bus = (place count : ℕ) (tuple : List ℕ) → fixed_row program bus place ≡ Some tuple → Stands program (record { bus = bus; side = Receive; tuple = tuple; count = count })
+
+program_fixed_by : (program : List VmInstr) (place count : ℕ) (found : Option VmInstr) (tuple : List ℕ) → slice_get program place ≡ found → option_map numbers_of found ≡ Some tuple
+    → Stands program (record { bus = 1; side = Receive; tuple = tuple; count = count })
+program_fixed_by program place count None tuple h e = absurd (cc)
+program_fixed_by program place count (Some row) tuple h e =
+    let same : numbers_of row ≡ tuple = cc in
+    subst (λ (t : List ℕ). Stands program (record { bus = 1; side = Receive; tuple = t; count = count })) same (program_stands program place count row h)
+
+program_fixed : (program : List VmInstr) → Fixed program 1
+program_fixed program = λ place count tuple e. program_fixed_by program place count (slice_get program place) tuple refl e
+
+lookup_fixed : (program : List VmInstr) (bus : ℕ) → 3 ≤ bus → Fixed program bus
+lookup_fixed program bus high = λ place count tuple e.
+    let off : nat_eq bus 1 ≡ false = ne_eqb bus 1 (λ is. omega (arith, is, high)) in
+    row_stands program bus place count tuple ((row_at-is bus place tuple).0 (rw off at e))
+
+received_by : (program : List VmInstr) (bus count : ℕ) (found : Option (List ℕ)) → ((tuple : List ℕ) → found ≡ Some tuple → Stands program (record { bus = bus; side = Receive; tuple = tuple; count = count }))
+    → AllByRecursion (Received program) (received_row bus count found)
+received_by program bus count None stands = tt
+received_by program bus count (Some row) stands = (λ side. stands row refl, tt)
+
+entries_received : (program : List VmInstr) (bus : ℕ) (entries : List CountEntry) → Fixed program bus → AllByRecursion (Received program) (received_on program bus entries)
+entries_received program bus entries fixed =
+    all_flat_map (Received program) (entry_events program bus) entries
+    (all_from_members (λ (e : CountEntry). AllByRecursion (Received program) (entry_events program bus e)) entries
+    (λ e h. received_by program bus e.count (fixed_row program bus e.place) (λ tuple is. fixed e.place e.count tuple is)))
+
+counted_received : (program : List VmInstr) (s : Segment) → AllByRecursion (Received program) (counted_events program s)
+counted_received program s =
+    all_append (Received program) (received_on program 1 s.program) (received_on program 3 s.xor ++ (received_on program 4 s.range ++ received_on program 5 s.constants))
+    (entries_received program 1 s.program (program_fixed program))
+    (all_append (Received program) (received_on program 3 s.xor) (received_on program 4 s.range ++ received_on program 5 s.constants)
+    (entries_received program 3 s.xor (lookup_fixed program 3 (omega arith)))
+    (all_append (Received program) (received_on program 4 s.range) (received_on program 5 s.constants)
+    (entries_received program 4 s.range (lookup_fixed program 4 (omega arith)))
+    (entries_received program 5 s.constants (lookup_fixed program 5 (omega arith)))))
 
 -- a bus of no fixed table
 free_bus : (program : List VmInstr) (e : Event) → e.bus ≢ 1 → e.bus ≢ 3 → e.bus ≢ 4 → e.bus ≢ 5 → Received program e
@@ -130,18 +156,16 @@ sends_received program e sends side = record {
     never : e.side ≡ Send → ⊥
     never s = let both : Send ≡ Receive = sym s ∙ side in absurd (cc)
 
-module _ (x : System) (program : List VmInstr) (s : Segment) (l : Lookups s) (buses : ExtensionBuses x) where
-  all_received : AllByRecursion (Received program) (segment_events x program s l)
+module _ (x : System) (program : List VmInstr) (s : Segment) (buses : ExtensionBuses x) where
+  all_received : AllByRecursion (Received program) (segment_events x program s)
   all_received =
-      all_append (Received program) (connector_events (start_of s) (end_of s)) (all_events x.parts s.tables ++ (flat_map boundary_events s.pages ++ counted_events program s l))
+      all_append (Received program) (connector_events (start_of s) (end_of s)) (all_events x.parts s.tables ++ (counted_events program s ++ flat_map boundary_events s.pages))
       (on_0 program _ refl, (on_0 program _ refl, tt))
-      (all_append (Received program) (all_events x.parts s.tables) (flat_map boundary_events s.pages ++ counted_events program s l)
+      (all_append (Received program) (all_events x.parts s.tables) (counted_events program s ++ flat_map boundary_events s.pages)
       (all_weaker Sends (Received program) (λ e h. sends_received program e h) (all_events x.parts s.tables) (rows_send x s.tables buses))
-      (all_append (Received program) (flat_map boundary_events s.pages) (counted_events program s l)
-      (pages_on (Received program) (on_2 program) s.pages)
-      (all_append (Received program) (flat_map (entry_events program) s.program) (l.xor ++ (l.range ++ l.constants)) (entries_received program s.program)
-      (all_append (Received program) l.xor (l.range ++ l.constants) (lookups_received program 3 s.xor l.xor l.are_xor)
-      (all_append (Received program) l.range l.constants (lookups_received program 4 s.range l.range l.are_range) (lookups_received program 5 s.constants l.constants l.are_constants))))))
+      (all_append (Received program) (counted_events program s) (flat_map boundary_events s.pages)
+      (counted_received program s)
+      (pages_on (Received program) (on_2 program) s.pages)))
 
 -- ---- what is sent is received
 
@@ -177,7 +201,7 @@ said_counts sheet row =
 abbrev pub Looked : List VmInstr → Event → Type 0
 Looked program e = is_lookup e.bus ≡ true → Stands program e
 
-module _ (x : System) (program : List VmInstr) (s : Segment) (l : Lookups s) (buses : ExtensionBuses x) (balanced : Balanced (segment_events x program s l)) where
+module _ (x : System) (program : List VmInstr) (s : Segment) (buses : ExtensionBuses x) (balanced : Balanced (segment_events x program s)) where
   all_count : AllByRecursion (λ (e : Event). 0 < e.count) (all_events x.parts s.tables)
   all_count =
       events_any (λ (e : Event). 0 < e.count) x.parts s.tables
@@ -185,10 +209,10 @@ module _ (x : System) (program : List VmInstr) (s : Segment) (l : Lookups s) (bu
 
   looked_up : (e : Event) → Member e (all_events x.parts s.tables) → Looked program e
   looked_up e h is =
-      let stands_in : Member e (segment_events x program s l) =
-      member_right e (connector_events (start_of s) (end_of s)) (all_events x.parts s.tables ++ (flat_map boundary_events s.pages ++ counted_events program s l))
-      (member_left e (all_events x.parts s.tables) (flat_map boundary_events s.pages ++ counted_events program s l) h) in
-      sent_stands program (segment_events x program s l) (all_received x program s l buses) balanced e stands_in
+      let stands_in : Member e (segment_events x program s) =
+      member_right e (connector_events (start_of s) (end_of s)) (all_events x.parts s.tables ++ (counted_events program s ++ flat_map boundary_events s.pages))
+      (member_left e (all_events x.parts s.tables) (counted_events program s ++ flat_map boundary_events s.pages) h) in
+      sent_stands program (segment_events x program s) (all_received x program s buses) balanced e stands_in
       (all_at (λ (y : Event). 0 < y.count) (all_events x.parts s.tables) e h all_count)
       (all_at Sends (all_events x.parts s.tables) e h (rows_send x s.tables buses) is)
 
@@ -215,50 +239,42 @@ good_row program ranges events looked = all_weaker (Looked program) GoodEvent (g
 abbrev pub FixedBus : Event → Type 0
 FixedBus e = (1 ≤ e.bus) × (e.bus ≤ 5) × (e.bus ≢ 2)
 
-entry_fixed : (count : ℕ) (found : Option VmInstr) → AllByRecursion FixedBus (received_row count found)
-entry_fixed count None = tt
-entry_fixed count (Some row) = ((omega arith, omega arith, (λ h. omega (arith, h))), tt)
+row_fixed : (bus count : ℕ) (found : Option (List ℕ)) → (1 ≤ bus) × (bus ≤ 5) × (bus ≢ 2) → AllByRecursion FixedBus (received_row bus count found)
+row_fixed bus count None is = tt
+row_fixed bus count (Some row) is = (is, tt)
 
-lookups_fixed : (bus : ℕ) (entries : List CountEntry) (events : List Event) → AreLookedUp bus entries events → AllByRecursion FixedBus events
-lookups_fixed bus [] [] are = tt
-lookups_fixed bus [] (x ∷ xs) are = elim are [ ]
-lookups_fixed bus (e ∷ es) [] are = elim are [ ]
-lookups_fixed bus (e ∷ es) (x ∷ xs) are =
-    let at = are.0.at in
-    let is : x.bus ≡ bus = ap (λ (y : Event). y.bus) are.0.is in
-    ((omega (arith, is, at.low), omega (arith, is, at.high), (λ h. omega (arith, is, at.low, h))), lookups_fixed bus es xs are.1)
+entries_fixed : (program : List VmInstr) (bus : ℕ) (entries : List CountEntry) → (1 ≤ bus) × (bus ≤ 5) × (bus ≢ 2) → AllByRecursion FixedBus (received_on program bus entries)
+entries_fixed program bus entries is =
+    all_flat_map FixedBus (entry_events program bus) entries
+    (all_from_members (λ (e : CountEntry). AllByRecursion FixedBus (entry_events program bus e)) entries (λ e h. row_fixed bus e.count (fixed_row program bus e.place) is))
 
-pub counted_fixed : (program : List VmInstr) (s : Segment) (l : Lookups s) → AllByRecursion FixedBus (counted_events program s l)
-counted_fixed program s l =
-    all_append FixedBus (flat_map (entry_events program) s.program) (l.xor ++ (l.range ++ l.constants))
-    (all_flat_map FixedBus (entry_events program) s.program
-    (all_from_members (λ (e : CountEntry). AllByRecursion FixedBus (entry_events program e)) s.program (λ e h. entry_fixed e.count (slice_get program e.place))))
-    (all_append FixedBus l.xor (l.range ++ l.constants) (lookups_fixed 3 s.xor l.xor l.are_xor)
-    (all_append FixedBus l.range l.constants (lookups_fixed 4 s.range l.range l.are_range) (lookups_fixed 5 s.constants l.constants l.are_constants)))
+pub counted_fixed : (program : List VmInstr) (s : Segment) → AllByRecursion FixedBus (counted_events program s)
+counted_fixed program s =
+    all_append FixedBus (received_on program 1 s.program) (received_on program 3 s.xor ++ (received_on program 4 s.range ++ received_on program 5 s.constants))
+    (entries_fixed program 1 s.program (omega arith, omega arith, λ h. omega (arith, h)))
+    (all_append FixedBus (received_on program 3 s.xor) (received_on program 4 s.range ++ received_on program 5 s.constants)
+    (entries_fixed program 3 s.xor (omega arith, omega arith, λ h. omega (arith, h)))
+    (all_append FixedBus (received_on program 4 s.range) (received_on program 5 s.constants)
+    (entries_fixed program 4 s.range (omega arith, omega arith, λ h. omega (arith, h)))
+    (entries_fixed program 5 s.constants (omega arith, omega arith, λ h. omega (arith, h)))))
 
-pub counted_not_on : (bus : ℕ) (program : List VmInstr) (s : Segment) (l : Lookups s) → ((e : Event) → FixedBus e → e.bus ≡ bus → ⊥) → NotOn bus (counted_events program s l)
-counted_not_on bus program s l away = all_weaker FixedBus (λ e. e.bus ≡ bus → ⊥) away (counted_events program s l) (counted_fixed program s l)
-
-none_there : (side : Side) (bus : ℕ) (tuple : List ℕ) (events : List Event) → NotOn bus events → total side bus tuple events ≡ 0
-none_there side bus tuple [] away = refl
-none_there side bus tuple (e ∷ events) away =
-    let none : amount_at side bus tuple e ≡ 0 = rw (ne_eqb e.bus bus away.0) refl in
-    omega (arith, total-cons side bus tuple e events, none, none_there side bus tuple events away.1)
+pub counted_not_on : (bus : ℕ) (program : List VmInstr) (s : Segment) → ((e : Event) → FixedBus e → e.bus ≡ bus → ⊥) → NotOn bus (counted_events program s)
+counted_not_on bus program s away = all_weaker FixedBus (λ e. e.bus ≡ bus → ⊥) away (counted_events program s) (counted_fixed program s)
 
 -- on a bus of its own an extension's rows balance by themselves
-pub private_balanced : (x : System) (program : List VmInstr) (s : Segment) (l : Lookups s) → ((bus : ℕ) → x.private bus ≡ true → 6 ≤ bus) → Balanced (segment_events x program s l) → BalancedOn x.private (all_events x.parts s.tables)
-private_balanced x program s l high balanced = record {
+pub private_balanced : (x : System) (program : List VmInstr) (s : Segment) → ((bus : ℕ) → x.private bus ≡ true → 6 ≤ bus) → Balanced (segment_events x program s) → BalancedOn x.private (all_events x.parts s.tables)
+private_balanced x program s high balanced = record {
   even = λ bus tuple own. omega (arith, on_own Send bus tuple (high bus own), on_own Receive bus tuple (high bus own), balanced.even bus tuple);
 }
   where
-    on_own : (side : Side) (bus : ℕ) (tuple : List ℕ) → 6 ≤ bus → total side bus tuple (segment_events x program s l) ≡ total side bus tuple (all_events x.parts s.tables)
+    on_own : (side : Side) (bus : ℕ) (tuple : List ℕ) → 6 ≤ bus → total side bus tuple (segment_events x program s) ≡ total side bus tuple (all_events x.parts s.tables)
     on_own side bus tuple high =
         omega (
           arith,
-          total-append side bus tuple (connector_events (start_of s) (end_of s)) (all_events x.parts s.tables ++ (flat_map boundary_events s.pages ++ counted_events program s l)),
-          total-append side bus tuple (all_events x.parts s.tables) (flat_map boundary_events s.pages ++ counted_events program s l),
-          total-append side bus tuple (flat_map boundary_events s.pages) (counted_events program s l),
-          none_there side bus tuple (connector_events (start_of s) (end_of s)) (λ h. omega (arith, h, high), (λ h. omega (arith, h, high), tt)),
-          none_there side bus tuple (flat_map boundary_events s.pages) (pages_on (λ e. e.bus ≡ bus → ⊥) (λ e h k. omega (arith, h, k, high)) s.pages),
-          none_there side bus tuple (counted_events program s l) (counted_not_on bus program s l (λ e fixed h. omega (arith, fixed.1, h, high))),
+          total-append side bus tuple (connector_events (start_of s) (end_of s)) (all_events x.parts s.tables ++ (counted_events program s ++ flat_map boundary_events s.pages)),
+          total-append side bus tuple (all_events x.parts s.tables) (counted_events program s ++ flat_map boundary_events s.pages),
+          total-append side bus tuple (counted_events program s) (flat_map boundary_events s.pages),
+          total_elsewhere side bus tuple (connector_events (start_of s) (end_of s)) (λ h. omega (arith, h, high), (λ h. omega (arith, h, high), tt)),
+          total_elsewhere side bus tuple (flat_map boundary_events s.pages) (pages_on (λ e. e.bus ≡ bus → ⊥) (λ e h k. omega (arith, h, k, high)) s.pages),
+          total_elsewhere side bus tuple (counted_events program s) (counted_not_on bus program s (λ e fixed h. omega (arith, fixed.1, h, high))),
         )

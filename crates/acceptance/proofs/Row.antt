@@ -18,6 +18,7 @@ use Rattle.air_core.specs.System.{time_if, times_of}
 use Rattle.air_core.specs.ListLemmas.{all_weaker}
 use Rattle.air_core.proofs.ElementLemmas.{all_at, all_from_members, member_left, member_right, member_flat_map, member_piece, member_cases}
 use Rattle.air_core.proofs.StepLaws.{last_same}
+use Rattle.offline_memory.proofs.Members.{contains_from_member}
 use Rattle.acceptance.specs.OneRun.{RowStep}
 use Rattle.acceptance.specs.Events.{is_valid}
 
@@ -47,11 +48,6 @@ on_bus_member bus y (e ∷ es) h =
       | inl a ↦ inl (member_if y e (nat_eq e.bus bus) a)
       | inr b ↦ inr (on_bus_member bus y es b)
     ]
-
-contains_member : (e : Event) (events : List Event) → Member e events → Contains events e
-contains_member e [] h = elim h [ ]
-contains_member e (x ∷ xs) (inl same) = (0, omega arith, same)
-contains_member e (x ∷ xs) (inr h) = let rest = contains_member e xs h in (suc rest.0, omega (arith, rest.1), rest.2)
 
 -- what a test of events on one bus finds
 module _ (bus : ℕ) (test : Event → Bool) (only : (e : Event) → nat_eq e.bus bus ≡ false → test e ≡ false) where
@@ -218,7 +214,7 @@ module _ (slots bits : ℕ) (instr : VmInstr) (time next : ℕ) (accesses : List
   -- ---- that a valid row is a hint, or none
 
   on_path_bus : (e : Event) → Member e (on_bus 0 events) → Contains events e
-  on_path_bus e h = contains_member e events (on_bus_member 0 e events h)
+  on_path_bus e h = contains_from_member e events (on_bus_member 0 e events h)
 
   begins : BeginsAt time events
   begins = record {
@@ -230,7 +226,7 @@ module _ (slots bits : ℕ) (instr : VmInstr) (time next : ℕ) (accesses : List
   writes_by a h space slot =
       let event = sent 2 1 (a.space ∷ a.pointer ∷ (a.new ++ (field_add time a.slot ∷ []))) in
       let there : Member event (on_bus 2 events) = subst (Member event) (sym step.spoken.memory) (member_piece (touched_events time) a event accesses h (inr (inl refl))) in
-      let contained : Contains events event = contains_member event events (on_bus_member 2 event events there) in
+      let contained : Contains events event = contains_from_member event events (on_bus_member 2 event events there) in
       record {
         pointer = a.pointer;
         written = subst (λ (n : ℕ). Contains events (sent 2 1 (2 ∷ a.pointer ∷ (a.new ++ (field_add time n ∷ []))))) slot

@@ -23,7 +23,7 @@ use Rattle.air_core.specs.System.{Part, time_if, times_of}
 use Rattle.air_core.proofs.ElementLemmas.{all_at}
 use Rattle.air_core.proofs.StepLaws.{step_same}
 use Rattle.exec_path.specs.Path.{slot_sum}
-use Rattle.acceptance.specs.OneRun.{RowStep, TableRow, RowSays, rows_of, steps_of}
+use Rattle.acceptance.specs.OneRun.{RowStep, TableRow, RowSays, timed_rows, steps_of}
 use Rattle.acceptance.specs.Events.{is_valid}
 use Rattle.acceptance.specs.Spelled.{AreHints}
 use Rattle.acceptance.proofs.EachRow.{SheetRow, said, slots_of_row}
@@ -32,7 +32,7 @@ use Rattle.acceptance.proofs.Lookups.{Looked, good_row}
 use Rattle.acceptance.proofs.Row.{IsSilent, silent_invalid, silent_times, silent_no_hint, step_hint, slot_word, step_valid, step_times, no_hint_step, hint_step, on_bus_member, silent_is_no_hint, is_no_hint, is_hint}
 
 -- A valid row: a step in time, and its instruction is a row of the program.
-pub record IsValidRow (program : List VmInstr) (sheet : Sheet) (row : List ℕ) : Type 0 where
+pub record IsValidRow (program : List VmInstr) (bound : ℕ) (sheet : Sheet) (row : List ℕ) : Type 0 where
   pub owns : OwnsSome sheet
   pub instr : VmInstr
   pub time : ℕ
@@ -41,11 +41,11 @@ pub record IsValidRow (program : List VmInstr) (sheet : Sheet) (row : List ℕ) 
   pub step : IsStep sheet.slots sheet.time_bits instr time next accesses (row_events sheet row)
   pub some : 1 ≤ sheet.slots
   pub few : sheet.slots ≤ 64
-  pub far : 2 ^ 24 ≤ 2 ^ sheet.time_bits
+  pub far : bound ≤ 2 ^ sheet.time_bits
   pub stands : Contains program instr
 
-abbrev pub Reads : List VmInstr → Sheet → List ℕ → Type 0
-Reads program sheet row = IsSilent (row_events sheet row) ⊎ IsValidRow program sheet row
+abbrev pub Reads : List VmInstr → ℕ → Sheet → List ℕ → Type 0
+Reads program bound sheet row = IsSilent (row_events sheet row) ⊎ IsValidRow program bound sheet row
 
 -- ---- one row
 
@@ -70,9 +70,9 @@ in_program program instr events ranges range looked said =
     let good : InRange t.row = All-contains InRange program t.row ranges t.stands in
     subst (Contains program) (sym (numbers_of-same instr t.row range.imm.four good.imm.four t.is)) t.stands
 
-pub row_reads : (program : List VmInstr) (private : ℕ → Bool) (bits : ℕ) (p : Part) (row : List ℕ) → All InRange program → 24 ≤ bits → PartFits bits p → PartBuses private p → Timed p.sheet
-    → IsRow p.sheet row → RowHolds p.sheet row → AllByRecursion (Looked program) (row_events p.sheet row) → Reads program p.sheet row
-row_reads program private bits p row ranges enough fits buses timed is holds looked =
+pub row_reads : (program : List VmInstr) (private : ℕ → Bool) (bits : ℕ) (p : Part) (row : List ℕ) → All InRange program → PartFits bits p → PartBuses private p → Timed p.sheet
+    → IsRow p.sheet row → RowHolds p.sheet row → AllByRecursion (Looked program) (row_events p.sheet row) → Reads program (2 ^ bits) p.sheet row
+row_reads program private bits p row ranges fits buses timed is holds looked =
     ⊎_elim
     (λ (silent : IsSilent (row_events p.sheet row)). inl silent)
     (λ (owns : OwnsSome p.sheet).
@@ -80,7 +80,7 @@ row_reads program private bits p row ranges enough fits buses timed is holds loo
     (λ (none : row_events p.sheet row ≡ []). inl (subst IsSilent (sym none) tt))
     (λ (t : TimedStep p.sheet.owns p.sheet.slots p.sheet.time_bits (row_events p.sheet row)).
     let slots = fits.slots t.instr.op t.owned in
-    let far : 24 ≤ p.sheet.time_bits = omega (arith, enough, fits.bits_same) in
+    let far : bits ≤ p.sheet.time_bits = omega (arith, fits.bits_same) in
     inr (record {
       owns = owns;
       instr = t.instr;
@@ -100,14 +100,14 @@ row_reads program private bits p row ranges enough fits buses timed is holds loo
 abbrev pub MeansIfBytes : RowStep → Type 0
 MeansIfBytes step = AllByRecursion (λ a. IsBytes a.old) step.accesses → IsMeaning step.instr step.accesses step.next
 
-abbrev pub row_step : {program : List VmInstr} {sheet : Sheet} {row : List ℕ} → IsValidRow program sheet row → RowStep
+abbrev pub row_step : {program : List VmInstr} {bound : ℕ} {sheet : Sheet} {row : List ℕ} → IsValidRow program bound sheet row → RowStep
 row_step {sheet = sheet} v = record { slots = sheet.slots; bits = sheet.time_bits; instr = v.instr; time = v.time; next = v.next; accesses = v.accesses }
 
 no_path : (a b : Event) → [] ≡ a ∷ b ∷ [] → ⊥
 no_path a b e = absurd (omega (arith, ap length e))
 
-row_means : (program : List VmInstr) (sheet : Sheet) (row : List ℕ) (v : IsValidRow program sheet row) → SoundRow sheet row → MeansIfBytes (row_step v)
-row_means program sheet row v sound bytes =
+row_means : (program : List VmInstr) (bound : ℕ) (sheet : Sheet) (row : List ℕ) (v : IsValidRow program bound sheet row) → SoundRow sheet row → MeansIfBytes (row_step v)
+row_means program bound sheet row v sound bytes =
     ⊎_elim
     (λ (none : row_events sheet row ≡ []). absurd (no_path _ _ (sym (ap (on_bus 0) none) ∙ v.step.spoken.path)))
     (λ (s : SoundStep sheet.owns sheet.slots sheet.time_bits (row_events sheet row)).
@@ -133,11 +133,11 @@ abbrev pub step_time : RowStep → ℕ
 step_time step = step.time
 
 -- the steps of the valid ones, in the rows' order
-pub record AllRead (program : List VmInstr) (rs : List SheetRow) : Type 0 where
+pub record AllRead (program : List VmInstr) (bound : ℕ) (rs : List SheetRow) : Type 0 where
   pub rows : List TableRow
   pub events : flat_map (λ (row : TableRow). row.events) rows ≡ flat_map said rs
-  pub says : AllByRecursion (RowSays (2 ^ 24)) rows
-  pub slots : slot_sum (rows_of (steps_of rows)) ≤ weight slots_of_row rs
+  pub says : AllByRecursion (RowSays bound) rows
+  pub slots : slot_sum (timed_rows (steps_of rows)) ≤ weight slots_of_row rs
   pub number : length (steps_of rows) ≡ count_by is_valid (map said rs)
   pub stands : AllByRecursion (StandsIn program) (steps_of rows)
   pub words : AllByRecursion FourWords (steps_of rows)
@@ -155,8 +155,8 @@ number_more r rs b is = sum_by-cons (λ es. cond (is_valid es) 1 0) (said r) (ma
 silent_off : (events : List Event) (bus : ℕ) → bus < 3 → IsSilent events → AllByRecursion (λ e. e.bus ≡ bus → ⊥) events
 silent_off events bus low silent = all_weaker (λ e. 3 ≤ e.bus) (λ e. e.bus ≡ bus → ⊥) (λ e h is. omega (arith, h, is, low)) events silent
 
-with_silent : (program : List VmInstr) (r : SheetRow) (rs : List SheetRow) → IsSilent (said r) → AllRead program rs → AllRead program (r ∷ rs)
-with_silent program r rs silent more = record {
+with_silent : (program : List VmInstr) (bound : ℕ) (r : SheetRow) (rs : List SheetRow) → IsSilent (said r) → AllRead program bound rs → AllRead program bound (r ∷ rs)
+with_silent program bound r rs silent more = record {
   rows = record { events = said r; step = None } ∷ more.rows;
   events = ap (λ (es : List Event). said r ++ es) more.events;
   says = ((silent_off (said r) 0 (omega arith) silent, silent_off (said r) 2 (omega arith) silent), more.says);
@@ -174,8 +174,8 @@ with_silent program r rs silent more = record {
     of_hints found (inl none) = more.hints found none.1
     of_hints found (inr is) = absurd (silent_no_hint is.0 (said r) silent is.2)
 
-with_valid : (program : List VmInstr) (r : SheetRow) (rs : List SheetRow) → IsValidRow program r.sheet r.row → AllRead program rs → AllRead program (r ∷ rs)
-with_valid program r rs v more = record {
+with_valid : (program : List VmInstr) (bound : ℕ) (r : SheetRow) (rs : List SheetRow) → IsValidRow program bound r.sheet r.row → AllRead program bound rs → AllRead program bound (r ∷ rs)
+with_valid program bound r rs v more = record {
   rows = record { events = said r; step = Some (row_step v) } ∷ more.rows;
   events = ap (λ (es : List Event). said r ++ es) more.events;
   says = (record { some = v.some; far = v.far; is_step = v.step }, more.says);
@@ -184,7 +184,7 @@ with_valid program r rs v more = record {
   stands = (v.stands, more.stands);
   words = (v.step.words, more.words);
   times = times_more r rs ∙ ap (λ (ts : List ℕ). ts ++ times_of (flat_map said rs)) times_here ∙ ap (λ (ts : List ℕ). v.time ∷ ts) more.times;
-  means = λ sound. (row_means program r.sheet r.row v sound.0, more.means sound.1);
+  means = λ sound. (row_means program bound r.sheet r.row v sound.0, more.means sound.1);
   hints = λ found are. of_hints found are;
   are_hints = λ means. hint_or_none (nat_eq v.instr.op 37) refl means.0 (more.are_hints means.1);
 }
@@ -212,8 +212,8 @@ with_valid program r rs v more = record {
         inr (record { time = v.time; word = slot_word v.accesses; next = false }, flat_map step_hint (steps_of more.rows), is, refl, rest)
     hint_or_none false op means rest = inl (is_no_hint r.sheet.slots r.sheet.time_bits v.instr v.time v.next v.accesses (said r) v.few v.step op, rest)
 
-pub read_all : (program : List VmInstr) (rs : List SheetRow) → AllByRecursion (λ r. Reads program r.sheet r.row) rs → AllRead program rs
-read_all program [] reads = record {
+pub read_all : (program : List VmInstr) (bound : ℕ) (rs : List SheetRow) → AllByRecursion (λ r. Reads program bound r.sheet r.row) rs → AllRead program bound rs
+read_all program bound [] reads = record {
   rows = [];
   events = refl;
   says = tt;
@@ -226,8 +226,8 @@ read_all program [] reads = record {
   hints = λ found are. are;
   are_hints = λ means. refl;
 }
-read_all program (r ∷ rs) reads =
+read_all program bound (r ∷ rs) reads =
     ⊎_elim
-    (λ (silent : IsSilent (said r)). with_silent program r rs silent (read_all program rs reads.1))
-    (λ (v : IsValidRow program r.sheet r.row). with_valid program r rs v (read_all program rs reads.1))
+    (λ (silent : IsSilent (said r)). with_silent program bound r rs silent (read_all program bound rs reads.1))
+    (λ (v : IsValidRow program bound r.sheet r.row). with_valid program bound r rs v (read_all program bound rs reads.1))
     reads.0

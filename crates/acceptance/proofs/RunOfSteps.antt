@@ -13,11 +13,11 @@ use Rattle.air_core.specs.ListLemmas.{all_weaker, all_append, all_left, all_righ
 use Rattle.air_core.proofs.Counting.{weight-map, weight-flat_map_permuted}
 use Rattle.air_core.proofs.Ordering.{in_order, in_order-IsPermutation, in_order-Ascends, Ascends-map}
 use Rattle.exec_path.proofs.PathLemmas.{Advances, advance, path_apart, before_end, after_start}
-use Rattle.offline_memory.specs.declared.page.Touched.{Touched}
+use Rattle.vm_trace.specs.declared.page.Touched.{Touched}
 use Rattle.offline_memory.specs.Memory.{same_cell, Access, met_cell, left_cell, Block, MemoryBalanced, InTime}
 use Rattle.offline_memory.specs.Bytes.{KeepBytes, HasBytes}
 use Rattle.offline_memory.specs.Pages.{blocks_of, DistinctLabels, IsOldTime}
-use Rattle.acceptance.specs.OneRun.{RowStep, timed_accesses, accesses_of, timed_row, rows_of, WholeTimes, StepHasBytes, OneRun}
+use Rattle.acceptance.specs.OneRun.{RowStep, timed_accesses, accesses_of, timed_row, timed_rows, WholeTimes, StepHasBytes, OneRun}
 use Rattle.offline_memory.proofs.Pairs.{Across, Pairwise-with, Pairwise-flat_map, Pairwise-unmap}
 use Rattle.offline_memory.proofs.PageLemmas.{one_memory, all_bytes, old_times}
 use Rattle.acceptance.proofs.StepTimes.{Within, slot_times, slots_rise, whole_accesses, olds_before_own, new_bytes_kept, bytes_of_row}
@@ -37,7 +37,7 @@ record Placed (bound : ℕ) (start end : Point) (step : RowStep) : Type 0 where
   pub whole : field_add step.time step.slots ≡ step.time + step.slots
   pub ends : step.time + step.slots ≤ end.time
 
-adds_slots : (bound : ℕ) (steps : List RowStep) → AllByRecursion (Known bound) steps → AllByRecursion AddsSlots (rows_of steps)
+adds_slots : (bound : ℕ) (steps : List RowStep) → AllByRecursion (Known bound) steps → AllByRecursion AddsSlots (timed_rows steps)
 adds_slots bound steps known =
     all_map AddsSlots timed_row steps (all_weaker (Known bound) (λ (step : RowStep). AddsSlots (timed_row step)) (λ step k. record { some = k.some; adds = refl }) steps known)
 
@@ -67,8 +67,8 @@ old_within bound accesses low time (inl zero_time) = omega (arith, zero_time)
 old_within bound accesses low time (inr h) = all_at (λ t. t ≤ bound) (map (λ (a : Access). a.time) accesses) time h (all_map (λ t. t ≤ bound) (λ (a : Access). a.time) accesses low)
 
 -- each step on the path, with what is known of it
-placed : (bound : ℕ) (start end : Point) (path : List RowStep) → AllByRecursion (Known bound) path → AllByRecursion (λ (r : TimedRow). r.to_time ≡ r.from_time + r.slots) (rows_of path)
-    → AllByRecursion Advances (rows_of path) → IsPath start (rows_of path) end → AllByRecursion (Placed bound start end) path
+placed : (bound : ℕ) (start end : Point) (path : List RowStep) → AllByRecursion (Known bound) path → AllByRecursion (λ (r : TimedRow). r.to_time ≡ r.from_time + r.slots) (timed_rows path)
+    → AllByRecursion Advances (timed_rows path) → IsPath start (timed_rows path) end → AllByRecursion (Placed bound start end) path
 placed bound start end path known whole advances walk =
     let K : RowStep → Type 0 = λ step. Known bound step in
     let P : RowStep → Type 0 = λ step. start.time ≤ step.time in
@@ -78,10 +78,10 @@ placed bound start end path known whole advances walk =
     (λ step h. record { known = h.0; starts = h.1.0; whole = h.1.1.0; ends = omega (arith, h.1.1.0, h.1.1.1) }) path
     (all_both K (λ step. P step × (Q step × R step)) path known
     (all_both P (λ step. Q step × R step) path
-    (all_unmap (λ (r : TimedRow). start.time ≤ r.from_time) timed_row path (after_start start end (rows_of path) advances walk))
+    (all_unmap (λ (r : TimedRow). start.time ≤ r.from_time) timed_row path (after_start start end (timed_rows path) advances walk))
     (all_both Q R path
     (all_unmap (λ (r : TimedRow). r.to_time ≡ r.from_time + r.slots) timed_row path whole)
-    (all_unmap (λ (r : TimedRow). r.to_time ≤ end.time) timed_row path (before_end start end (rows_of path) advances walk)))))
+    (all_unmap (λ (r : TimedRow). r.to_time ≤ end.time) timed_row path (before_end start end (timed_rows path) advances walk)))))
 
 -- the accesses along the path rise in time
 accesses_rise : (bound : ℕ) (start end : Point) (path : List RowStep) → end.time < modulus → AllByRecursion (Placed bound start end) path
@@ -134,20 +134,20 @@ rows_keep_bytes bound path known =
     all_map KeepBytes timed_accesses path (all_weaker (Known bound) (λ (step : RowStep). KeepBytes (timed_accesses step)) (λ step k. new_bytes_kept step.time step.accesses k.new_bytes) path known)
 
 run_along : (bound : ℕ) (start end : Point) (pages : List Touched) (steps path : List RowStep) → IsPermutation steps path → Ascends (λ (step : RowStep). step.time) path
-    → OnePath start end (rows_of steps) → AllByRecursion (Known bound) steps → start.time + slot_sum (rows_of steps) ≤ bound → bound < modulus
+    → OnePath start end (timed_rows steps) → AllByRecursion (Known bound) steps → start.time + slot_sum (timed_rows steps) ≤ bound → bound < modulus
     → MemoryBalanced (blocks_of pages) (accesses_of steps) → DistinctLabels pages → OneRun start end pages steps
 run_along bound start end pages steps path p up one known low high balanced labels =
-    let p_rows : IsPermutation (rows_of steps) (rows_of path) = IsPermutation-map timed_row steps path p in
-    let same_path : rows_of path ≡ one.path = one.sorted (rows_of path) p_rows (Ascends-map (λ (r : TimedRow). r.from_time) timed_row path up) in
-    let walk : IsPath start (rows_of path) end = subst (λ (t : List TimedRow). IsPath start t end) (sym same_path) one.is_path in
-    let rises : Rises (λ (r : TimedRow). r.from_time) (rows_of path) = subst (λ (t : List TimedRow). Rises (λ (r : TimedRow). r.from_time) t) (sym same_path) one.rises in
-    let whole : AllByRecursion (λ (r : TimedRow). r.to_time ≡ r.from_time + r.slots) (rows_of path) = all_permuted (λ (r : TimedRow). r.to_time ≡ r.from_time + r.slots) (rows_of steps) (rows_of path) p_rows one.no_wrap in
-    let advances : AllByRecursion Advances (rows_of path) = all_permuted Advances (rows_of steps) (rows_of path) p_rows (advance (rows_of steps) (adds_slots bound steps known) one.no_wrap) in
+    let p_rows : IsPermutation (timed_rows steps) (timed_rows path) = IsPermutation-map timed_row steps path p in
+    let same_path : timed_rows path ≡ one.path = one.sorted (timed_rows path) p_rows (Ascends-map (λ (r : TimedRow). r.from_time) timed_row path up) in
+    let walk : IsPath start (timed_rows path) end = subst (λ (t : List TimedRow). IsPath start t end) (sym same_path) one.is_path in
+    let rises : Rises (λ (r : TimedRow). r.from_time) (timed_rows path) = subst (λ (t : List TimedRow). Rises (λ (r : TimedRow). r.from_time) t) (sym same_path) one.rises in
+    let whole : AllByRecursion (λ (r : TimedRow). r.to_time ≡ r.from_time + r.slots) (timed_rows path) = all_permuted (λ (r : TimedRow). r.to_time ≡ r.from_time + r.slots) (timed_rows steps) (timed_rows path) p_rows one.no_wrap in
+    let advances : AllByRecursion Advances (timed_rows path) = all_permuted Advances (timed_rows steps) (timed_rows path) p_rows (advance (timed_rows steps) (adds_slots bound steps known) one.no_wrap) in
     let end_low : end.time ≤ bound = omega (arith, one.ends, low) in
     let end_high : end.time < modulus = omega (arith, end_low, high) in
     let known_along : AllByRecursion (Known bound) path = all_permuted (Known bound) steps path p known in
     let all : AllByRecursion (Placed bound start end) path = placed bound start end path known_along whole advances walk in
-    let apart : Pairwise (λ (x y : RowStep). field_add x.time x.slots ≤ y.time) path = Pairwise-unmap (λ (x y : TimedRow). x.to_time ≤ y.from_time) timed_row path (path_apart start end (rows_of path) advances walk) in
+    let apart : Pairwise (λ (x y : RowStep). field_add x.time x.slots ≤ y.time) path = Pairwise-unmap (λ (x y : TimedRow). x.to_time ≤ y.from_time) timed_row path (path_apart start end (timed_rows path) advances walk) in
     let bounded : AllByRecursion (λ a. (start.time ≤ a.time) × (a.time < end.time)) (accesses_of path) = accesses_bounded bound start end path end_high all in
     let here : MemoryBalanced (blocks_of pages) (accesses_of path) = balanced_permuted (blocks_of pages) steps path p balanced in
     let low_times : AllByRecursion (λ a. a.time ≤ bound) (accesses_of path) = all_weaker (λ a. (start.time ≤ a.time) × (a.time < end.time)) (λ a. a.time ≤ bound) (λ a h. omega (arith, h.1, end_low)) (accesses_of path) bounded in
@@ -177,8 +177,8 @@ run_along bound start end pages steps path p up one known low high balanced labe
           (rows_keep_bytes bound path known_along)));
     }
 
-pub run_of_steps : (bound : ℕ) (start end : Point) (pages : List Touched) (steps : List RowStep) → ((adds : AllByRecursion AddsSlots (rows_of steps)) → OnePath start end (rows_of steps))
-    → AllByRecursion (Known bound) steps → start.time + slot_sum (rows_of steps) ≤ bound → bound < modulus
+pub run_of_steps : (bound : ℕ) (start end : Point) (pages : List Touched) (steps : List RowStep) → ((adds : AllByRecursion AddsSlots (timed_rows steps)) → OnePath start end (timed_rows steps))
+    → AllByRecursion (Known bound) steps → start.time + slot_sum (timed_rows steps) ≤ bound → bound < modulus
     → MemoryBalanced (blocks_of pages) (accesses_of steps) → DistinctLabels pages → OneRun start end pages steps
 run_of_steps bound start end pages steps one known low high balanced labels =
     run_along bound start end pages steps (in_order (λ (step : RowStep). step.time) steps)

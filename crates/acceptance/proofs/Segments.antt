@@ -1,5 +1,5 @@
 -- A segment that holds is a run.
-use Rattle.std.proofs.Common.{◌≡◌, ℕ, suc, ◌^◌, ◌<◌, Bool, true, false, nat_eq, List, [], ◌∷◌, ◌++◌, length, map, refl, sym, ap, ◌∙◌, subst, arith, inl, inr}
+use Rattle.std.proofs.Common.{◌≡◌, ℕ, suc, ◌^◌, ◌<◌, ◌≤◌, Bool, true, false, nat_eq, List, [], ◌∷◌, ◌++◌, length, map, refl, sym, ap, ◌∙◌, subst, arith, inl, inr, pow_mono}
 use Rattle.std.specs.Prelude.{flat_map, All, count_by, IsPermutation, if◌then◌else◌, AllPairs}
 use Rattle.std.specs.List.{AllByRecursion}
 use Rattle.std.specs.List.Sorted.{IsStrictlyIncreasing}
@@ -7,6 +7,7 @@ use Rattle.std.proofs.lemmas.Grind.{flat_map-append}
 use Rattle.std.proofs.lemmas.List.Elements.{recursion_from_All}
 use Rattle.std.proofs.lemmas.List.Kept.{AllPairs-from_increasing}
 use Rattle.std.proofs.lemmas.List.Sorted.{length_permutation, IsPermutation-sym}
+use Rattle.vm_field.specs.Field.{modulus}
 use Rattle.vm_isa.specs.declared.instr.VmInstr.{VmInstr}
 use Rattle.vm_isa.specs.Blocks.{Blocks, VmGoes, space_size}
 use Rattle.vm_isa.specs.Instr.{InRange}
@@ -23,26 +24,28 @@ use Rattle.air_core.specs.System.{System, Part, EachRow, GoodRow, Whole, times_o
 use Rattle.air_core.proofs.ElementLemmas.{all_both, all_permuted}
 use Rattle.exec_path.specs.PathEvents.{connector_events}
 use Rattle.air_core.proofs.Ordering.{in_order, in_order-IsPermutation, in_order-Ascends}
-use Rattle.offline_memory.specs.declared.page.Touched.{Touched}
-use Rattle.offline_memory.specs.BlockMemory.{IsPage, ArePages, HasOld}
+use Rattle.vm_trace.specs.declared.page.Touched.{Touched}
+use Rattle.vm_trace.specs.PageBlocks.{IsPage, ArePages, HasOldWords}
 use Rattle.acceptance.specs.BlockRun.{after_steps}
 use Rattle.offline_memory.specs.MemoryEvents.{boundary_events}
-use Rattle.offline_memory.specs.Pages.{page_space, DistinctLabels}
+use Rattle.vm_trace.specs.Pages.{page_space}
+use Rattle.offline_memory.specs.Pages.{DistinctLabels}
 use Rattle.acceptance.specs.OneRun.{RowStep, TableRow, OneRun, StepHasBytes, steps_of}
 use Rattle.acceptance.proofs.WholeSegment.{whole_run}
 use Rattle.acceptance.proofs.BlockRun.{run_meets_blocks}
 use Rattle.page_tree.specs.Parts.{labels_of, label_of}
-use Rattle.acceptance.specs.File.{Segment}
+use Rattle.vm_trace.specs.File.{Segment}
 use Rattle.acceptance.specs.Events.{counted_events, start_of, end_of, is_valid, valid_rows}
-use Rattle.acceptance.specs.Holds.{IsMachineLabel, IsMachinePage, SegmentHolds}
+use Rattle.vm_trace.specs.Pages.{IsMachineLabel}
+use Rattle.acceptance.specs.Holds.{IsMachinePage, SegmentHolds}
 use Rattle.acceptance.specs.Laws.{SegmentRuns, SegmentsAreRuns}
-use Rattle.acceptance.specs.Spelled.{AreHints, SegmentSpells, hint_bytes}
+use Rattle.acceptance.specs.Spelled.{AreHints, HintEvent, hint_event, SegmentSpells, hints_before}
 use Rattle.acceptance.proofs.EachRow.{all_rows, each_both, each_with, rows_each, events_are, said_are, slots_are}
 use Rattle.acceptance.proofs.Lookups.{Looked, rows_look_up, good_row, counted_not_on, private_balanced}
 use Rattle.acceptance.proofs.Orders.{differ_in_any, one_order}
 use Rattle.acceptance.proofs.Row.{step_hint, slot_word}
 use Rattle.acceptance.proofs.Rows.{Reads, row_reads, AllRead, read_all, MeansIfBytes, StandsIn, FourWords, HasMeaning, step_time}
-use Rattle.acceptance.proofs.Steps.{IsMachineStep, step_bytes, path_bytes, path_goes}
+use Rattle.acceptance.proofs.Steps.{IsMachineStep, word_bytes, step_bytes, path_bytes, path_goes, before_words}
 
 -- ---- pages
 
@@ -87,9 +90,9 @@ hints_rise : (path : List RowStep) → Rises (λ (step : RowStep). step.time) pa
 hints_rise [] up = tt
 hints_rise (step ∷ more) up = rise_by step (flat_map step_hint more) (nat_eq step.instr.op 37) (later_hints step.time more up.0) (hints_rise more up.1)
 
-bytes_joined : (path : List RowStep) → flat_map hint_bytes (flat_map step_hint path) ≡ path_bytes path
+bytes_joined : (path : List RowStep) → flat_map word_bytes (flat_map step_hint path) ≡ path_bytes path
 bytes_joined [] = refl
-bytes_joined (step ∷ more) = flat_map-append hint_bytes (step_hint step) (flat_map step_hint more) ∙ ap (λ (xs : List ℕ). step_bytes step ++ xs) (bytes_joined more)
+bytes_joined (step ∷ more) = flat_map-append word_bytes (step_hint step) (flat_map step_hint more) ∙ ap (λ (xs : List ℕ). step_bytes step ++ xs) (bytes_joined more)
 
 -- ---- steps along a path
 
@@ -115,52 +118,55 @@ module _ (x : System) (fits : ExtensionFits x) (buses : ExtensionBuses x) (timed
   known =
       each_both (λ sheet row. IsRow sheet row × RowHolds sheet row) (λ sheet row. AllByRecursion (Looked program) (row_events sheet row)) (Known program) x.parts s.tables (λ sheet row a b. (a, b))
       (each_both IsRow RowHolds (λ sheet row. IsRow sheet row × RowHolds sheet row) x.parts s.tables (λ sheet row a b. (a, b)) holds.are_rows holds.hold)
-      (rows_look_up x program s holds.lookups buses holds.balanced)
+      (rows_look_up x program s buses holds.balanced)
 
   laws : AllByRecursion (PartLaws x.private x.time_bits) x.parts
   laws = all_both (λ p. PartFits x.time_bits p × PartBuses x.private p) (λ p. Timed p.sheet) x.parts (all_both (PartFits x.time_bits) (PartBuses x.private) x.parts fits.parts buses) timed
 
-  reads : EachRow (Reads program) x.parts s.tables
+  reads : EachRow (Reads program (2 ^ x.time_bits)) x.parts s.tables
   reads =
-      each_with (PartLaws x.private x.time_bits) (Known program) (Reads program) x.parts s.tables
-      (λ p row o k. row_reads program x.private x.time_bits p row ranges fits.bits_low o.0.0 o.0.1 o.1 k.0.0 k.0.1 k.1) laws known
+      each_with (PartLaws x.private x.time_bits) (Known program) (Reads program (2 ^ x.time_bits)) x.parts s.tables
+      (λ p row o k. row_reads program x.private x.time_bits p row ranges o.0.0 o.0.1 o.1 k.0.0 k.0.1 k.1) laws known
 
   good : EachRow GoodRow x.parts s.tables
   good =
       each_both (Known program) (Known program) GoodRow x.parts s.tables
       (λ sheet row k l. record { is_row = k.0.0; holds = k.0.1; good = good_row program ranges (row_events sheet row) k.1 }) known known
 
-  pub read : AllRead program (all_rows x.parts s.tables)
-  read = read_all program (all_rows x.parts s.tables) (rows_each (Reads program) x.parts s.tables reads)
+  pub read : AllRead program (2 ^ x.time_bits) (all_rows x.parts s.tables)
+  read = read_all program (2 ^ x.time_bits) (all_rows x.parts s.tables) (rows_each (Reads program (2 ^ x.time_bits)) x.parts s.tables reads)
 
   pub steps : List RowStep
   steps = steps_of read.rows
 
-  balanced : Balanced (connector_events (start_of s) (end_of s) ++ (flat_map (λ (row : TableRow). row.events) read.rows ++ (flat_map boundary_events s.pages ++ counted_events program s holds.lookups)))
+  balanced : Balanced (connector_events (start_of s) (end_of s) ++ (flat_map (λ (row : TableRow). row.events) read.rows ++ (counted_events program s ++ flat_map boundary_events s.pages)))
   balanced =
-      subst (λ (events : List Event). Balanced (connector_events (start_of s) (end_of s) ++ (events ++ (flat_map boundary_events s.pages ++ counted_events program s holds.lookups))))
+      subst (λ (events : List Event). Balanced (connector_events (start_of s) (end_of s) ++ (events ++ (counted_events program s ++ flat_map boundary_events s.pages))))
       (sym (read.events ∙ events_are x.parts s.tables)) holds.balanced
 
   distinct : DistinctLabels s.pages
   distinct = labels_differ s.pages holds.rising
 
+  low : 2 ^ x.time_bits < modulus
+  low = let most : 2 ^ x.time_bits ≤ 2 ^ 29 = pow_mono fits.bits_high in omega arith
+
   pub run : OneRun (start_of s) (end_of s) s.pages (steps_of read.rows)
   run =
-      whole_run (2 ^ 24) (start_of s) (end_of s) s.pages read.rows (counted_events program s holds.lookups) read.says
-      (counted_not_on 0 program s holds.lookups (λ e fixed h. omega (arith, fixed.0, h)))
-      (counted_not_on 2 program s holds.lookups (λ e fixed h. fixed.2 h))
-      distinct (omega (arith, read.slots, slots_are x.parts s.tables, holds.slots)) (omega arith) balanced
+      whole_run (2 ^ x.time_bits) (start_of s) (end_of s) s.pages read.rows (counted_events program s) read.says
+      (counted_not_on 0 program s (λ e fixed h. omega (arith, fixed.0, h)))
+      (counted_not_on 2 program s (λ e fixed h. fixed.2 h))
+      distinct (omega (arith, read.slots, slots_are x.parts s.tables, holds.slots)) low balanced
 
   whole : Whole x s.tables
   whole = record {
     count = holds.count;
     rows = good;
-    balanced = private_balanced x program s holds.lookups fits.private_high holds.balanced;
+    balanced = private_balanced x program s fits.private_high holds.balanced;
     times = subst Distinct (sym (ap times_of (sym (events_are x.parts s.tables)) ∙ read.times)) (differ_in_any step_time (steps_of read.rows) run.path run.same_steps run.rises);
   }
 
   path_bytes_known : AllByRecursion StepHasBytes run.path
-  path_bytes_known = run.bytes (all_weaker IsMachinePage (λ (page : Touched). IsBytes page.old) (λ page p. p.old_bytes) s.pages holds.pages)
+  path_bytes_known = run.bytes (all_weaker IsMachinePage (λ (page : Touched). IsBytes page.old) (λ page p. p.whole.old.bytes) s.pages holds.pages)
 
   pub on_path : AllByRecursion (IsMachineStep program) run.path
   on_path =
@@ -173,27 +179,34 @@ module _ (x : System) (fits : ExtensionFits x) (buses : ExtensionBuses x) (timed
   steps_number : length run.path ≡ valid_rows x s
   steps_number = length_permutation (steps_of read.rows) run.path run.same_steps ∙ read.number ∙ ap (count_by is_valid) (said_are x.parts s.tables)
 
-  -- what the segment spells is what the path uses up
-  spelled : (hints : List ℕ) → SegmentSpells x s hints → hints ≡ path_bytes run.path
+  -- what the segment spells is what the path does
+  spelled : (hints : List HintEvent) → SegmentSpells x s hints → hints ≡ map hint_event (flat_map step_hint run.path)
   spelled hints spells =
       let found : spells.found ≡ flat_map step_hint (steps_of read.rows) = read.hints spells.found (subst (λ (l : List (List Event)). AreHints l spells.found) (sym (said_are x.parts s.tables)) spells.are_hints) in
       let sorted : spells.sorted ≡ flat_map step_hint run.path =
       one_order step_hint (λ (h : HintWord). h.time) (steps_of read.rows) run.path run.same_steps spells.sorted
       (subst (λ (xs : List HintWord). IsPermutation xs spells.sorted) found spells.same) spells.in_order (hints_rise run.path run.rises) in
-      spells.spell ∙ ap (flat_map hint_bytes) sorted ∙ bytes_joined run.path
+      spells.spell ∙ ap (λ (hs : List HintWord). map hint_event hs) sorted
+
+  -- so that the machine has the path's bytes
+  spelled_before : (hints : List HintEvent) (rest : List ℕ) → SegmentSpells x s hints → hints_before hints rest ≡ path_bytes run.path ++ rest
+  spelled_before hints rest spells =
+      ap (λ (es : List HintEvent). hints_before es rest) (spelled hints spells)
+      ∙ before_words (flat_map step_hint run.path) rest
+      ∙ ap (λ (bytes : List ℕ). bytes ++ rest) (bytes_joined run.path)
 
   -- so there is one such list
-  pub spelled_once : (a b : List ℕ) → SegmentSpells x s a → SegmentSpells x s b → a ≡ b
+  pub spelled_once : (a b : List HintEvent) → SegmentSpells x s a → SegmentSpells x s b → a ≡ b
   spelled_once a b p q = spelled a p ∙ sym (spelled b q)
 
   -- and there is one
-  pub segment_spells : (hints : List ℕ) × SegmentSpells x s hints
+  pub segment_spells : (hints : List HintEvent) × SegmentSpells x s hints
   segment_spells =
       let found = flat_map step_hint (steps_of read.rows) in
       let meant : AllByRecursion HasMeaning (steps_of read.rows) =
       all_permuted HasMeaning run.path (steps_of read.rows) (IsPermutation-sym (steps_of read.rows) run.path run.same_steps)
       (all_weaker (IsMachineStep program) HasMeaning (λ step m. m.means) run.path on_path) in (
-        flat_map hint_bytes (in_order (λ (h : HintWord). h.time) found),
+        map hint_event (in_order (λ (h : HintWord). h.time) found),
         record {
           found = found;
           are_hints = subst (λ (l : List (List Event)). AreHints l found) (said_are x.parts s.tables) (read.are_hints meant);
@@ -204,14 +217,14 @@ module _ (x : System) (fits : ExtensionFits x) (buses : ExtensionBuses x) (timed
         },
       )
 
-  pub segment_runs : (blocks : Blocks) (hints rest : List ℕ) → SegmentSpells x s hints → HasOld s.pages blocks → SegmentRuns program s (valid_rows x s) blocks hints rest
+  pub segment_runs : (blocks : Blocks) (hints : List HintEvent) (rest : List ℕ) → SegmentSpells x s hints → HasOldWords s.pages blocks → SegmentRuns program s (valid_rows x s) blocks hints rest
   segment_runs blocks hints rest spells old =
       let met = run_meets_blocks (start_of s) (end_of s) s.pages (steps_of read.rows) run blocks distinct (are_pages s.pages holds.pages) old in
       let goes = path_goes program (start_of s) (end_of s) run.path blocks rest on_path met.0 run.is_path in
       record {
         after = after_steps blocks run.path;
-        goes = subst (λ (n : ℕ). VmGoes program (record { pc = s.pc_start; blocks = blocks; hints = hints ++ rest }) n (record { pc = s.pc_end; blocks = after_steps blocks run.path; hints = rest })) steps_number
-            (subst (λ (bytes : List ℕ). VmGoes program (record { pc = s.pc_start; blocks = blocks; hints = bytes ++ rest }) (length run.path) (record { pc = s.pc_end; blocks = after_steps blocks run.path; hints = rest })) (sym (spelled hints spells)) goes);
+        goes = subst (λ (n : ℕ). VmGoes program (record { pc = s.pc_start; blocks = blocks; hints = hints_before hints rest }) n (record { pc = s.pc_end; blocks = after_steps blocks run.path; hints = rest })) steps_number
+            (subst (λ (bytes : List ℕ). VmGoes program (record { pc = s.pc_start; blocks = blocks; hints = bytes }) (length run.path) (record { pc = s.pc_end; blocks = after_steps blocks run.path; hints = rest })) (sym (spelled_before hints rest spells)) goes);
         new = met.1;
       }
 

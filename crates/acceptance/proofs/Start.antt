@@ -13,7 +13,7 @@ use Rattle.vm_isa.proofs.SpaceLaws.{block_low}
 use Rattle.vm_transpile.specs.Start.{start_blocks}
 use Rattle.air_core.specs.ListLemmas.{all_weaker}
 use Rattle.air_core.proofs.Ordering.{range_within}
-use Rattle.offline_memory.specs.Pages.{word_at}
+use Rattle.vm_trace.specs.Pages.{block_word}
 use Rattle.page_tree.specs.Tree.{Leaves}
 use Rattle.page_tree.specs.MapBlocks.{map_block, AreBlocksOf}
 use Rattle.page_tree.specs.Start.{memory_leaf, start_map}
@@ -30,7 +30,7 @@ four_same : (a b c d e f g h : ℕ) → a ≡ e → b ≡ f → c ≡ g → d �
 four_same a b c d e f g h p q r s = rw (p, q, r, s) refl
 
 memory_word : (image : Loaded) (pointer : ℕ) → pointer % 4 ≡ 0
-    → map (λ i. byte_of image (pointer + i)) (range_with_len 0 4) ≡ word_at (memory_leaf image (pointer / 64)) (pointer % 64 / 4)
+    → map (λ i. byte_of image (pointer + i)) (range_with_len 0 4) ≡ block_word (memory_leaf image (pointer / 64)) (pointer % 64 / 4)
 memory_word image pointer aligned =
     four_same _ _ _ _ _ _ _ _
     (sym (memory_byte image (pointer / 64) (4 * (pointer % 64 / 4)) (pointer + 0) (omega arith) (omega (arith, aligned))))
@@ -42,12 +42,12 @@ in_memory : (image : Loaded) (pointer : ℕ) → pointer % 4 ≡ 0 → pointer <
 in_memory image pointer aligned low =
     let leaf : (8388608 * 2 + pointer / 64) % 8388608 ≡ pointer / 64 = omega (arith, low) in
     memory_word image pointer aligned
-    ∙ ap (λ (n : ℕ). word_at (memory_leaf image n) (pointer % 64 / 4)) (sym leaf)
-    ∙ ap (λ (bytes : List ℕ). word_at bytes (pointer % 64 / 4)) (sym (start_map-in image (8388608 * 2 + pointer / 64) (omega (arith, low))))
+    ∙ ap (λ (n : ℕ). block_word (memory_leaf image n) (pointer % 64 / 4)) (sym leaf)
+    ∙ ap (λ (bytes : List ℕ). block_word bytes (pointer % 64 / 4)) (sym (start_map-in image (8388608 * 2 + pointer / 64) (omega (arith, low))))
 
 -- ---- the other spaces
 
-zero_word : (block : ℕ) → block < 16 → word_at (replicate 64 0) block ≡ 0 ∷ 0 ∷ 0 ∷ 0 ∷ []
+zero_word : (block : ℕ) → block < 16 → block_word (replicate 64 0) block ≡ 0 ∷ 0 ∷ 0 ∷ 0 ∷ []
 zero_word block low =
     four_same _ _ _ _ _ _ _ _
     (get_or-replicate 64 (4 * block) 0 0 (omega (arith, low)))
@@ -60,7 +60,7 @@ elsewhere image space pointer other low =
     let zeros : start_blocks image space pointer ≡ 0 ∷ 0 ∷ 0 ∷ 0 ∷ [] = rw (ne_eqb space 2 other) refl in
     zeros
     ∙ sym (zero_word (pointer % 64 / 4) (omega arith))
-    ∙ ap (λ (bytes : List ℕ). word_at bytes (pointer % 64 / 4)) (sym (start_map-out image (8388608 * space + pointer / 64) (λ e. other (omega (arith, e, low)))))
+    ∙ ap (λ (bytes : List ℕ). block_word bytes (pointer % 64 / 4)) (sym (start_map-out image (8388608 * space + pointer / 64) (λ e. other (omega (arith, e, low)))))
 
 pub start_blocks_are : (image : Loaded) → AreBlocksOf (start_map image) (start_blocks image)
 start_blocks_are image = record {
@@ -91,27 +91,27 @@ drop_end [] = refl
 drop_end (x ∷ xs) = drop_end xs
 
 -- words one after the other are the list
-words_are : (xs : List ℕ) (a n : ℕ) → length xs ≡ 4 * (a + n) → flat_map (word_at xs) (range_with_len a n) ≡ drop (4 * a) xs
+words_are : (xs : List ℕ) (a n : ℕ) → length xs ≡ 4 * (a + n) → flat_map (block_word xs) (range_with_len a n) ≡ drop (4 * a) xs
 words_are xs a zero size =
     let all : 4 * a ≡ length xs = omega (arith, size) in
     sym (ap (λ (k : ℕ). drop k xs) all ∙ drop_end xs)
 words_are xs a (suc n) size =
     let more : 4 * (a + 1) ≡ 4 * a + 4 = omega arith in
-    ap (λ (ys : List ℕ). word_at xs a ++ ys) (words_are xs (a + 1) n (omega (arith, size)) ∙ ap (λ (k : ℕ). drop k xs) more)
+    ap (λ (ys : List ℕ). block_word xs a ++ ys) (words_are xs (a + 1) n (omega (arith, size)) ∙ ap (λ (k : ℕ). drop k xs) more)
     ∙ four_more xs (4 * a) (omega (arith, size))
 
-public_block : (m : Leaves) (blocks : Blocks) → AreBlocksOf m blocks → (j : ℕ) → j < 16 → blocks 3 (4 * j) ≡ word_at (m 25165824) j
+public_block : (m : Leaves) (blocks : Blocks) → AreBlocksOf m blocks → (j : ℕ) → j < 16 → blocks 3 (4 * j) ≡ block_word (m 25165824) j
 public_block m blocks are j low =
     let is : is_block 3 (4 * j) ≡ true = grind (arith, nat_tests) in
     let label : 8388608 * 3 + 4 * j / 64 ≡ 25165824 = omega (arith, low) in
     let block : 4 * j % 64 / 4 ≡ j = omega (arith, low) in
-    are.each 3 (4 * j) is ∙ ap (λ (n : ℕ). word_at (m n) (4 * j % 64 / 4)) label ∙ ap (word_at (m 25165824)) block
+    are.each 3 (4 * j) is ∙ ap (λ (n : ℕ). block_word (m n) (4 * j % 64 / 4)) label ∙ ap (block_word (m 25165824)) block
 
-public_blocks : (m : Leaves) (blocks : Blocks) → AreBlocksOf m blocks → (js : List ℕ) → AllByRecursion (λ j. j < 16) js → flat_map (λ j. blocks 3 (4 * j)) js ≡ flat_map (word_at (m 25165824)) js
+public_blocks : (m : Leaves) (blocks : Blocks) → AreBlocksOf m blocks → (js : List ℕ) → AllByRecursion (λ j. j < 16) js → flat_map (λ j. blocks 3 (4 * j)) js ≡ flat_map (block_word (m 25165824)) js
 public_blocks m blocks are [] low = refl
 public_blocks m blocks are (j ∷ js) low =
     ap (λ (xs : List ℕ). xs ++ flat_map (λ i. blocks 3 (4 * i)) js) (public_block m blocks are j low.0)
-    ∙ ap (λ (xs : List ℕ). word_at (m 25165824) j ++ xs) (public_blocks m blocks are js low.1)
+    ∙ ap (λ (xs : List ℕ). block_word (m 25165824) j ++ xs) (public_blocks m blocks are js low.1)
 
 pub public_bytes_are : (m : Leaves) (blocks : Blocks) (public_bytes : List ℕ) → AreBlocksOf m blocks → public_bytes ≡ m 25165824 → length public_bytes ≡ 64 → public_bytes_of blocks ≡ public_bytes
 public_bytes_are m blocks public_bytes are is size =

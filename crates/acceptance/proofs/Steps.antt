@@ -10,8 +10,9 @@ use Rattle.vm_isa.specs.Words.{IsBytes}
 use Rattle.air_core.specs.Step.{Touched, FourEach, IsMeaning, accessed}
 use Rattle.exec_path.specs.Path.{Point, IsPath}
 use Rattle.acceptance.specs.BlockRun.{StepsMeet, after_steps, step_accesses}
-use Rattle.acceptance.specs.OneRun.{RowStep, StepHasBytes, rows_of, timed_row}
-use Rattle.acceptance.specs.Spelled.{hint_bytes, low_byte}
+use Rattle.acceptance.specs.OneRun.{RowStep, StepHasBytes, timed_rows, timed_row}
+use Rattle.air_core.specs.declared.hint.HintWord.{HintWord}
+use Rattle.acceptance.specs.Spelled.{hint_event, hints_before, low_byte}
 use Rattle.acceptance.proofs.Hints.{any_given, hint_word, hint_four, olds_of}
 use Rattle.acceptance.proofs.Row.{slot_word, step_hint}
 
@@ -39,9 +40,23 @@ pub record IsMachineStep (program : List VmInstr) (step : RowStep) : Type 0 wher
   pub four : AllByRecursion FourEach step.accesses
   pub bytes : StepHasBytes step
 
+-- the hint bytes that a row uses up
+abbrev pub word_bytes : HintWord → List ℕ
+word_bytes h = if h.next then [] else map low_byte h.word
+
+word_before : (h : HintWord) (hs : List HintWord) (rest : List ℕ) (b : Bool) → h.next ≡ b → hints_before (map hint_event hs) rest ≡ flat_map word_bytes hs ++ rest
+    → hints_before (map hint_event (h ∷ hs)) rest ≡ flat_map word_bytes (h ∷ hs) ++ rest
+word_before h hs rest true is more = rw is more
+word_before h hs rest false is more = rw is (ap (λ (bytes : List ℕ). map low_byte h.word ++ bytes) more ∙ sym (append_assoc (map low_byte h.word) (flat_map word_bytes hs) rest))
+
+-- those of rows, before others
+pub before_words : (hs : List HintWord) (rest : List ℕ) → hints_before (map hint_event hs) rest ≡ flat_map word_bytes hs ++ rest
+before_words [] rest = refl
+before_words (h ∷ hs) rest = word_before h hs rest h.next refl (before_words hs rest)
+
 -- the hint bytes that a step uses up
 abbrev pub step_bytes : RowStep → List ℕ
-step_bytes step = flat_map hint_bytes (step_hint step)
+step_bytes step = flat_map word_bytes (step_hint step)
 
 olds_accessed : (accesses : List Touched) → map (λ (a : Accessed). a.old) (map accessed accesses) ≡ olds_of accesses
 olds_accessed [] = refl
@@ -131,7 +146,7 @@ goes_first program s t u (suc n) step (before, reached, last) = (before, goes_fi
 abbrev pub path_bytes : List RowStep → List ℕ
 path_bytes path = flat_map step_bytes path
 
-pub path_goes : (program : List VmInstr) (start end : Point) (path : List RowStep) (blocks : Blocks) (rest : List ℕ) → AllByRecursion (IsMachineStep program) path → StepsMeet blocks path → IsPath start (rows_of path) end
+pub path_goes : (program : List VmInstr) (start end : Point) (path : List RowStep) (blocks : Blocks) (rest : List ℕ) → AllByRecursion (IsMachineStep program) path → StepsMeet blocks path → IsPath start (timed_rows path) end
     → VmGoes program (state start.pc blocks (path_bytes path ++ rest)) (length path) (state end.pc (after_steps blocks path) rest)
 path_goes program start end [] blocks rest steps meets path = ap (λ (pc : ℕ). state pc blocks rest) (sym (ap (λ (x : Point). x.pc) path))
 path_goes program start end (step ∷ more) blocks rest steps meets path =

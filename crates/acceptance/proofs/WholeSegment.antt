@@ -17,17 +17,17 @@ use Rattle.exec_path.specs.PathEvents.{path_events, connector_events, execution_
 use Rattle.air_core.specs.ListLemmas.{all_append, all_weaker}
 use Rattle.exec_path.proofs.PathLemmas.{one_path, rows_balance}
 use Rattle.air_core.proofs.Totals.{total-on_bus, total_each, SameTotals-flat_map}
-use Rattle.offline_memory.specs.declared.page.Touched.{Touched}
+use Rattle.vm_trace.specs.declared.page.Touched.{Touched}
 use Rattle.offline_memory.specs.Memory.{Access}
 use Rattle.offline_memory.specs.Pages.{page_blocks}
 use Rattle.offline_memory.specs.MemoryEvents.{access_events, block_events, boundary_events, memory_events}
-use Rattle.acceptance.specs.OneRun.{RowStep, TableRow, NotOn, SaysIfValid, RowSays, access_at, timed_accesses, accesses_of, timed_row, rows_of, step_list, steps_of, run_events}
+use Rattle.acceptance.specs.OneRun.{RowStep, TableRow, NotOn, SaysIfValid, RowSays, timed_access, timed_accesses, accesses_of, timed_row, timed_rows, step_list, steps_of, run_events}
 use Rattle.acceptance.specs.Laws.{BalancedStepsAreOneRun, BalancedSegmentIsOneRun}
 use Rattle.offline_memory.proofs.EventLemmas.{accesses_balance}
 use Rattle.acceptance.proofs.RunOfSteps.{Known, run_of_steps}
 
 -- events that are not on a bus have no sum there
-total_elsewhere : (side : Side) (bus : ℕ) (tuple : List ℕ) (events : List Event) → NotOn bus events → total side bus tuple events ≡ 0
+pub total_elsewhere : (side : Side) (bus : ℕ) (tuple : List ℕ) (events : List Event) → NotOn bus events → total side bus tuple events ≡ 0
 total_elsewhere side bus tuple [] away = refl
 total_elsewhere side bus tuple (e ∷ events) away =
     let none : amount_at side bus tuple e ≡ 0 = rw (ne_eqb e.bus bus away.0) refl in
@@ -40,14 +40,14 @@ same_on_bus bus events listed e = record { sums = λ side tuple. sym (total-on_b
 same_nowhere : (bus : ℕ) (events : List Event) → NotOn bus events → SameTotals bus events []
 same_nowhere bus events away = record { sums = λ side tuple. total_elsewhere side bus tuple events away }
 
-same_accesses : (time : ℕ) (xs : List RowAccess) → flat_map (touched_events time) xs ≡ flat_map access_events (map (access_at time) xs)
+same_accesses : (time : ℕ) (xs : List RowAccess) → flat_map (touched_events time) xs ≡ flat_map access_events (map (timed_access time) xs)
 same_accesses time [] = refl
 same_accesses time (a ∷ xs) = ap (λ (t : List Event). touched_events time a ++ t) (same_accesses time xs)
 
 -- what a row says on the execution bus and on the memory bus
-says_path : (bound : ℕ) (events : List Event) (step : Option RowStep) → SaysIfValid bound events step → SameTotals 0 events (flat_map path_events (rows_of (step_list step)))
+says_path : (bound : ℕ) (events : List Event) (step : Option RowStep) → SaysIfValid bound events step → SameTotals 0 events (flat_map path_events (timed_rows (step_list step)))
 says_path bound events None away = same_nowhere 0 events away.0
-says_path bound events (Some step) says = same_on_bus 0 events (flat_map path_events (rows_of (step ∷ []))) says.is_step.spoken.path
+says_path bound events (Some step) says = same_on_bus 0 events (flat_map path_events (timed_rows (step ∷ []))) says.is_step.spoken.path
 
 says_memory : (bound : ℕ) (events : List Event) (step : Option RowStep) → SaysIfValid bound events step → SameTotals 2 events (flat_map access_events (accesses_of (step_list step)))
 says_memory bound events None away = same_nowhere 2 events away.1
@@ -71,15 +71,15 @@ known_all bound (row ∷ rows) says = all_append (Known bound) (step_list row.st
 pub one_run : BalancedStepsAreOneRun
 one_run bound start end pages rows events says labels low high balanced_0 same_0 balanced_2 same_2 =
     run_of_steps bound start end pages (steps_of rows)
-    (λ adds. one_path start end (rows_of (steps_of rows)) adds (omega (arith, low, high)) (rows_balance start end (rows_of (steps_of rows)) events balanced_0 same_0))
+    (λ adds. one_path start end (timed_rows (steps_of rows)) adds (omega (arith, low, high)) (rows_balance start end (timed_rows (steps_of rows)) events balanced_0 same_0))
     (known_all bound rows says) low high (accesses_balance pages (accesses_of (steps_of rows)) events balanced_2 same_2) labels
 
 -- the events of the steps, row by row
-path_joined : (rows : List TableRow) → flat_map (λ (row : TableRow). flat_map path_events (rows_of (step_list row.step))) rows ≡ flat_map path_events (rows_of (steps_of rows))
+path_joined : (rows : List TableRow) → flat_map (λ (row : TableRow). flat_map path_events (timed_rows (step_list row.step))) rows ≡ flat_map path_events (timed_rows (steps_of rows))
 path_joined [] = refl
 path_joined (row ∷ rows) =
-    ap (λ (t : List Event). flat_map path_events (rows_of (step_list row.step)) ++ t) (path_joined rows)
-    ∙ sym (flat_map-append path_events (rows_of (step_list row.step)) (rows_of (steps_of rows)))
+    ap (λ (t : List Event). flat_map path_events (timed_rows (step_list row.step)) ++ t) (path_joined rows)
+    ∙ sym (flat_map-append path_events (timed_rows (step_list row.step)) (timed_rows (steps_of rows)))
     ∙ ap (λ (t : List TimedRow). flat_map path_events t) (sym (map-append timed_row (step_list row.step) (steps_of rows)))
 
 memory_joined : (rows : List TableRow) → flat_map (λ (row : TableRow). flat_map access_events (accesses_of (step_list row.step))) rows ≡ flat_map access_events (accesses_of (steps_of rows))
@@ -99,19 +99,19 @@ pages_elsewhere side tuple pages =
     total_each side 0 tuple boundary_events (λ _. 0) (λ page. total_each side 0 tuple block_events (λ _. 0) (λ b. total_elsewhere side 0 tuple (block_events b) (λ e. omega (arith, e), (λ e. omega (arith, e), tt))) (page_blocks page) ∙ none (page_blocks page)) pages
     ∙ none pages
 
-same_execution : (bound : ℕ) (start end : Point) (pages : List Touched) (rows : List TableRow) (others : List Event) → NotOn 0 others → AllByRecursion (RowSays bound) rows → SameTotals 0 (run_events start end pages rows others) (execution_events start end (rows_of (steps_of rows)))
+same_execution : (bound : ℕ) (start end : Point) (pages : List Touched) (rows : List TableRow) (others : List Event) → NotOn 0 others → AllByRecursion (RowSays bound) rows → SameTotals 0 (run_events start end pages rows others) (execution_events start end (timed_rows (steps_of rows)))
 same_execution bound start end pages rows others away says =
-    let of_rows : SameTotals 0 (flat_map (λ (row : TableRow). row.events) rows) (flat_map (λ (row : TableRow). flat_map path_events (rows_of (step_list row.step))) rows) =
-    SameTotals-flat_map 0 (λ (row : TableRow). row.events) (λ row. flat_map path_events (rows_of (step_list row.step))) rows
-    (all_weaker (RowSays bound) (λ row. SameTotals 0 row.events (flat_map path_events (rows_of (step_list row.step)))) (λ row h. says_path bound row.events row.step h) rows says) in
+    let of_rows : SameTotals 0 (flat_map (λ (row : TableRow). row.events) rows) (flat_map (λ (row : TableRow). flat_map path_events (timed_rows (step_list row.step))) rows) =
+    SameTotals-flat_map 0 (λ (row : TableRow). row.events) (λ row. flat_map path_events (timed_rows (step_list row.step))) rows
+    (all_weaker (RowSays bound) (λ row. SameTotals 0 row.events (flat_map path_events (timed_rows (step_list row.step)))) (λ row h. says_path bound row.events row.step h) rows says) in
     record {
       sums = λ side tuple.
           omega (
             arith,
-            total-append side 0 tuple (connector_events start end) (flat_map (λ (row : TableRow). row.events) rows ++ (flat_map boundary_events pages ++ others)),
-            total-append side 0 tuple (flat_map (λ (row : TableRow). row.events) rows) (flat_map boundary_events pages ++ others),
-            total-append side 0 tuple (flat_map boundary_events pages) others,
-            total-append side 0 tuple (connector_events start end) (flat_map path_events (rows_of (steps_of rows))),
+            total-append side 0 tuple (connector_events start end) (flat_map (λ (row : TableRow). row.events) rows ++ (others ++ flat_map boundary_events pages)),
+            total-append side 0 tuple (flat_map (λ (row : TableRow). row.events) rows) (others ++ flat_map boundary_events pages),
+            total-append side 0 tuple others (flat_map boundary_events pages),
+            total-append side 0 tuple (connector_events start end) (flat_map path_events (timed_rows (steps_of rows))),
             of_rows.sums side tuple,
             ap (total side 0 tuple) (path_joined rows),
             pages_elsewhere side tuple pages,
@@ -128,9 +128,9 @@ same_memory bound start end pages rows others away says =
       sums = λ side tuple.
           omega (
             arith,
-            total-append side 2 tuple (connector_events start end) (flat_map (λ (row : TableRow). row.events) rows ++ (flat_map boundary_events pages ++ others)),
-            total-append side 2 tuple (flat_map (λ (row : TableRow). row.events) rows) (flat_map boundary_events pages ++ others),
-            total-append side 2 tuple (flat_map boundary_events pages) others,
+            total-append side 2 tuple (connector_events start end) (flat_map (λ (row : TableRow). row.events) rows ++ (others ++ flat_map boundary_events pages)),
+            total-append side 2 tuple (flat_map (λ (row : TableRow). row.events) rows) (others ++ flat_map boundary_events pages),
+            total-append side 2 tuple others (flat_map boundary_events pages),
             total-append side 2 tuple (flat_map boundary_events pages) (flat_map access_events (accesses_of (steps_of rows))),
             of_rows.sums side tuple,
             ap (total side 2 tuple) (memory_joined rows),

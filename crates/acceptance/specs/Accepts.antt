@@ -3,16 +3,19 @@ use Rattle.std.specs.Prelude.{◌≡◌, ℕ, ◌+◌, ◌≤◌, true, false, L
 use Rattle.std.specs.List.{AllByRecursion}
 use Rattle.elf_image.specs.Loaded.{Loaded}
 use Rattle.vm_isa.specs.Blocks.{Terminates}
-use Rattle.vm_isa.specs.Words.{IsBytes}
+use Rattle.vm_trace.specs.declared.page.TheConstants.{PUBLIC_LABEL}
+use Rattle.vm_trace.specs.Canonical.{Shape, IsCanonical}
+use Rattle.vm_trace.specs.File.{Segment, File}
+use Rattle.vm_trace.specs.Limits.{limits_of}
+use Rattle.vm_trace.specs.Pages.{IsLeaf}
 use Rattle.vm_transpile.specs.Program.{program_of}
-use Rattle.air_core.specs.System.{System}
+use Rattle.air_core.specs.System.{System, Part}
 use Rattle.page_tree.specs.Tree.{root, Collision}
 use Rattle.page_tree.specs.Opening.{AreDigests}
 use Rattle.page_tree.specs.Parts.{opening_of_pages}
 use Rattle.page_tree.specs.Path.{climb}
 use Rattle.page_tree.specs.Chain.{Opening, IsHeldWithPath}
 use Rattle.page_tree.specs.Start.{start_map}
-use Rattle.acceptance.specs.File.{Segment, File}
 use Rattle.acceptance.specs.Events.{valid_rows}
 use Rattle.acceptance.specs.Holds.{SegmentHolds}
 
@@ -36,19 +39,15 @@ OnlyLastEnds [] = Unit {0}
 OnlyLastEnds (s ∷ []) = s.ends ≡ true
 OnlyLastEnds (s ∷ t ∷ ss) = (s.ends ≡ false) × OnlyLastEnds (t ∷ ss)
 
--- the page of public bytes
-abbrev pub public_label : ℕ
-public_label = 25165824
-
 -- a path of 25 digests leads from these 64 bytes, which are public, to a root
 pub record IsPublic (public_bytes : List ℕ) (path : List (List ℕ)) (end : List ℕ) : Type 0 where
-  pub size : length public_bytes ≡ 64
-  pub bytes : IsBytes public_bytes
+  pub whole : IsLeaf public_bytes
   pub levels : length path ≡ 25
   pub digests : AreDigests path
-  pub leads : climb public_label public_bytes path ≡ end
+  pub leads : climb PUBLIC_LABEL public_bytes path ≡ end
 
-pub record Accepts (x : System) (image : Loaded) (file : File) : Type 0 where
+-- what a file claims holds: all that its theorem asks
+pub record ClaimHolds (x : System) (image : Loaded) (file : File) : Type 0 where
   pub some : 1 ≤ length file.segments
   pub few : length file.segments ≤ 4096
   pub hold : AllByRecursion (SegmentHolds x (program_of image)) file.segments
@@ -56,6 +55,17 @@ pub record Accepts (x : System) (image : Loaded) (file : File) : Type 0 where
   pub ends : OnlyLastEnds file.segments
   pub terminates : Terminates (program_of image) (last_pc image.entry file.segments) file.code
   pub public : IsPublic file.public_bytes file.path (last_root (root (start_map image)) file.segments)
+
+-- what a file for this extension and this image is read against
+abbrev pub shape_of : System → Loaded → Shape
+shape_of x image = record { widths = map (λ (p : Part). p.sheet.width) x.parts; program_len = length (program_of image) }
+
+-- A file is accepted: it is of the form of its version, for an extension that keeps the times of that version, and its
+-- claim holds.
+pub record Accepts (x : System) (image : Loaded) (file : File) : Type 0 where
+  pub bits : x.time_bits ≡ (limits_of file.version).time_bits
+  pub canonical : IsCanonical (shape_of x image) file
+  pub claim : ClaimHolds x image file
 
 -- the valid rows of all segments
 abbrev pub steps_in : System → List Segment → ℕ
@@ -73,7 +83,7 @@ openings_of file = map opening_of file.segments
 
 -- a node is held: it is one of the image's tree, or was hashed in an opening or on the public path
 abbrev pub IsHeld : Loaded → File → List ℕ → Type 0
-IsHeld image file node = IsHeldWithPath (start_map image) (openings_of file) public_label file.public_bytes file.path node
+IsHeld image file node = IsHeldWithPath (start_map image) (openings_of file) PUBLIC_LABEL file.public_bytes file.path node
 
 -- two different nodes that are held have one digest
 abbrev pub Collides : Loaded → File → Type 0

@@ -1,6 +1,5 @@
 pub mod OneRun
 pub mod BlockRun
-pub mod File
 pub mod Events
 pub mod Holds
 pub mod Spelled

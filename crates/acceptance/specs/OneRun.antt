@@ -9,7 +9,7 @@ use Rattle.air_core.specs.Step.{IsStep, Touched as RowAccess}
 use Rattle.air_core.specs.Orders.{Rises}
 use Rattle.exec_path.specs.Path.{Point, TimedRow, IsPath, slot_sum}
 use Rattle.exec_path.specs.PathEvents.{connector_events}
-use Rattle.offline_memory.specs.declared.page.Touched.{Touched}
+use Rattle.vm_trace.specs.declared.page.Touched.{Touched}
 use Rattle.offline_memory.specs.Memory.{Access, InTime}
 use Rattle.offline_memory.specs.MemoryEvents.{boundary_events}
 use Rattle.offline_memory.specs.Pages.{PagesOfBytes, SequentialMemory}
@@ -25,11 +25,11 @@ pub record RowStep : Type 0 where
   pub accesses : List RowAccess
 
 -- an access of a row with its time, modulo p
-abbrev pub access_at : ℕ → RowAccess → Access
-access_at time a = record { space = a.space; pointer = a.pointer; old = a.old; before = a.before; new = a.new; time = field_add time a.slot }
+abbrev pub timed_access : ℕ → RowAccess → Access
+timed_access time a = record { space = a.space; pointer = a.pointer; old = a.old; before = a.before; new = a.new; time = field_add time a.slot }
 
 abbrev pub timed_accesses : RowStep → List Access
-timed_accesses step = map (access_at step.time) step.accesses
+timed_accesses step = map (timed_access step.time) step.accesses
 
 abbrev pub accesses_of : List RowStep → List Access
 accesses_of steps = flat_map timed_accesses steps
@@ -38,8 +38,8 @@ accesses_of steps = flat_map timed_accesses steps
 abbrev pub timed_row : RowStep → TimedRow
 timed_row step = record { from_pc = step.instr.pc; from_time = step.time; to_pc = step.next; to_time = field_add step.time step.slots; slots = step.slots }
 
-abbrev pub rows_of : List RowStep → List TimedRow
-rows_of steps = map timed_row steps
+abbrev pub timed_rows : List RowStep → List TimedRow
+timed_rows steps = map timed_row steps
 
 -- a row of any table: its events, and its step, if it is valid
 pub record TableRow : Type 0 where
@@ -72,10 +72,10 @@ step_list None = []
 abbrev pub steps_of : List TableRow → List RowStep
 steps_of rows = flat_map (λ (row : TableRow). step_list row.step) rows
 
--- all events of a segment: the connector's, the rows', the pages', and others, as those of lookup tables
+-- all events of a segment: the connector's, the rows', others, as those of lookup tables, and the pages'
 abbrev pub run_events : Point → Point → List Touched → List TableRow → List Event → List Event
 run_events start end pages rows others =
-    connector_events start end ++ (flat_map (λ (row : TableRow). row.events) rows ++ (flat_map boundary_events pages ++ others))
+    connector_events start end ++ (flat_map (λ (row : TableRow). row.events) rows ++ (others ++ flat_map boundary_events pages))
 
 -- the row's time, and those of its accesses, do not wrap
 pub record WholeTimes (step : RowStep) : Type 0 where
@@ -92,9 +92,9 @@ StepHasBytes step = AllByRecursion (λ a. IsBytes a.old × IsBytes a.new) step.a
 pub record OneRun (start end : Point) (pages : List Touched) (steps : List RowStep) : Type 0 where
   pub path : List RowStep
   pub same_steps : IsPermutation steps path
-  pub is_path : IsPath start (rows_of path) end
+  pub is_path : IsPath start (timed_rows path) end
   pub rises : Rises (λ (step : RowStep). step.time) path
-  pub ends : end.time ≡ start.time + slot_sum (rows_of steps)
+  pub ends : end.time ≡ start.time + slot_sum (timed_rows steps)
   pub whole : AllByRecursion WholeTimes path
   pub in_time : InTime (accesses_of path)
   pub bounded : AllByRecursion (λ a. (start.time ≤ a.time) × (a.time < end.time)) (accesses_of path)

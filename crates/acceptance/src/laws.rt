@@ -1,5 +1,5 @@
 //! What an accepted file says. Each function is empty: its contract is the law.
-ghost use Rattle.acceptance.specs.Laws.{SegmentsAreRuns, AcceptedFilesAreRunsOnBlocks, AcceptedFilesAreRuns, AcceptedFilesSpell, AcceptedFilesSpellOneList, HeldNodesHave64Bytes, RestingFilesAreAccepted, SteppingFilesAreAccepted, BalancedStepsAreOneRun, BalancedSegmentIsOneRun, RunsMeetBlocks};
+ghost use Rattle.acceptance.specs.Laws.{SegmentsAreRuns, AcceptedFilesAreRunsOnBlocks, AcceptedFilesAreRuns, AcceptedFilesSpell, AcceptedFilesSpellOneList, HeldNodesHave64Bytes, RestingClaimsHold, RestingFilesAreAccepted, SteppingFilesAreAccepted, BalancedStepsAreOneRun, BalancedSegmentIsOneRun, RunsMeetBlocks};
 
 use air_core::Extension;
 
@@ -23,30 +23,31 @@ pub fn segments_are_runs<E: Extension>()
     ensures { (ext : E) → SegmentsAreRuns (E.system ext) }
 {}
 
-/// An accepted file states a run on blocks, or two nodes that are held have one digest.
+/// A file whose claim holds states a run on blocks, or two nodes that are held have one digest.
 pub fn accepted_files_are_runs_on_blocks<E: Extension>()
     ensures { (ext : E) → AcceptedFilesAreRunsOnBlocks (E.system ext) }
 {}
 
-/// An accepted file states a run of the manual's machine, or two nodes that are held have one digest.
+/// A file whose claim holds states a run of the manual's machine, or two nodes that are held have one digest.
 pub fn accepted_files_are_runs<E: Extension>()
     ensures { (ext : E) → AcceptedFilesAreRuns (E.system ext) }
 {}
 
-/// An accepted file spells one list of hints.
+/// Such a file spells one list of hints.
 pub fn accepted_files_spell_hints<E: Extension>()
     ensures some { (ext : E) → AcceptedFilesSpell (E.system ext) }
     ensures one { (ext : E) → AcceptedFilesSpellOneList (E.system ext) }
 {}
 
-/// The nodes that an accepted file holds have 64 bytes each.
+/// The nodes that such a file holds have 64 bytes each.
 pub fn held_nodes_have_64_bytes<E: Extension>()
     ensures { (ext : E) → HeldNodesHave64Bytes (E.system ext) }
 {}
 
 /// A file of no steps is accepted, where the program ends at its entry.
 pub fn resting_files_are_accepted<E: Extension>()
-    ensures { (ext : E) → RestingFilesAreAccepted (E.system ext) }
+    ensures accepted { (ext : E) → RestingFilesAreAccepted (E.system ext) }
+    ensures claim { (ext : E) → RestingClaimsHold (E.system ext) }
 {}
 
 /// The file of one no-operation is accepted, where the program begins with one and then ends.

@@ -27,5 +27,4 @@ pub mod ExtensionLaws
 pub mod PartLemmas
 pub mod JoinLaws
 pub mod SingleLaws
-pub mod Contents
 pub mod lemmas

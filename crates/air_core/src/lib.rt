@@ -4,7 +4,6 @@
 mod both;
 pub mod bus;
 mod chip;
-mod count;
 mod elements;
 mod emission;
 mod event;
@@ -21,14 +20,12 @@ mod path;
 mod reserved;
 mod single;
 mod sink;
-mod tables;
 #[cfg(test)]
 mod tests;
 mod tuple;
 
 pub use both::Both;
 pub use chip::Chip;
-pub use count::{CountEntry, CountList};
 pub use elements::element;
 pub use emission::{emit, emit_path, emit_received, emit_sent};
 pub use event::{Event, Side};
@@ -45,5 +42,4 @@ pub use reserved::Reserved;
 pub use single::Single;
 pub use sink::EventSink;
 pub use std::alloc::AllocError as OutOfMemory;
-pub use tables::Tables;
 pub use tuple::{MAX_TUPLE, Tuple};

@@ -9,7 +9,9 @@ use Rattle.air_core.specs.Ring.{Ring, field, cell}
 use Rattle.gadget_limbs.specs.declared.lookup.OperationFlags.{OperationFlags}
 use Rattle.gadget_limbs.specs.Lookup.{lookup_lines}
 use Rattle.gadget_limbs.specs.Sum.{sum_constraints}
-use Rattle.adapter_regs.specs.Core.{Core, CoreParts, Operands}
+use Rattle.air_core.specs.Sheet.{Sheet}
+use Rattle.gadget_time.specs.Form.{form_sheet}
+use Rattle.adapter_regs.specs.Core.{Core, CoreParts, Operands, regs_form}
 
 abbrev pub alu_opcodes : List ℕ
 alu_opcodes = ADD ∷ SUB ∷ XOR ∷ OR ∷ AND ∷ []
@@ -48,3 +50,7 @@ alu_core = record {
   place = λ op left right. place_of alu_opcodes op;
   filled = λ place left right new. list_of new;
 }
+
+-- the table, with times of 16 + hi bits
+abbrev pub alu_sheet : ℕ → Sheet
+alu_sheet hi = form_sheet (regs_form alu_core) hi

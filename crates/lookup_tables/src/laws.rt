@@ -1,6 +1,6 @@
 //! What places and rows are to one another. The functions do nothing: their contracts are proved.
 
-ghost use Rattle.std.specs.Prelude.{◌≡◌, ◌<◌, ℕ, List};
+ghost use Rattle.std.specs.Prelude.{◌≡◌, ◌<◌, ◌↔◌, ℕ, List, Some};
 ghost use Rattle.lookup_tables.specs.Places.{IsRowAt, IsRowOf, rows_of};
 ghost use Rattle.lookup_tables.specs.Rows.{row_at};
 
@@ -16,5 +16,5 @@ pub fn a_place_has_one_row()
     ensures one { (bus place : ℕ) (tuple other : List ℕ) → IsRowAt bus place tuple → IsRowAt bus place other → tuple ≡ other }
     ensures below { (bus place : ℕ) (tuple : List ℕ) → IsRowAt bus place tuple → place < rows_of bus }
     ensures row { (bus place : ℕ) (tuple : List ℕ) → IsRowAt bus place tuple → IsRowOf bus tuple }
-    ensures function { (bus place : ℕ) → place < rows_of bus → IsRowAt bus place (row_at bus place) }
+    ensures function { (bus place : ℕ) (tuple : List ℕ) → (row_at bus place ≡ Some tuple ↔ IsRowAt bus place tuple) }
 {}

@@ -5,7 +5,7 @@ use Rattle.std.specs.List.{range_with_len}
 use Rattle.std.proofs.lemmas.List.Concat.{flat_map-append}
 use Rattle.std.proofs.lemmas.List.FromFn.{map-range_with_len_more, length-map-range_with_len}
 use Rattle.air_core.specs.declared.event.Event.{Event}
-use Rattle.offline_memory.specs.declared.page.Touched.{Touched}
+use Rattle.vm_trace.specs.declared.page.Touched.{Touched}
 use Rattle.offline_memory.specs.Memory.{Block}
 use Rattle.offline_memory.specs.Pages.{block_of}
 use Rattle.offline_memory.specs.MemoryEvents.{block_events, boundary_events}

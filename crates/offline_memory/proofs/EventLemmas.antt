@@ -10,7 +10,7 @@ use Rattle.air_core.specs.Totals.{SameTotals, is_bus}
 use Rattle.air_core.specs.Counts.{once, count_of}
 use Rattle.air_core.proofs.Counting.{weight-map}
 use Rattle.air_core.proofs.Totals.{balanced_same, total_each, total_send-exchange, total_receive-exchange, total_send-given_first, total_receive-given_first}
-use Rattle.offline_memory.specs.declared.page.Touched.{Touched}
+use Rattle.vm_trace.specs.declared.page.Touched.{Touched}
 use Rattle.offline_memory.specs.Memory.{Cell, cell_tuple, same_cell, Access, met_cell, left_cell, Block, first_cell, last_cell, MemoryBalanced}
 use Rattle.offline_memory.specs.Pages.{page_blocks, blocks_of}
 use Rattle.offline_memory.specs.MemoryEvents.{access_events, block_events, boundary_events, memory_events}

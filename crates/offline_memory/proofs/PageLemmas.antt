@@ -10,26 +10,29 @@ use Rattle.air_core.specs.ListLemmas.{all_weaker}
 use Rattle.air_core.proofs.Counting.{count_member, member_from_count}
 use Rattle.offline_memory.proofs.Pairs.{Pairwise-map, Pairwise-weaker, Pairwise-flat_map, Across}
 use Rattle.air_core.proofs.Ordering.{range_within, range-Rises, range_member}
-use Rattle.offline_memory.specs.declared.page.Touched.{Touched}
-use Rattle.offline_memory.specs.Memory.{Cell, Access, Block, met_cell, left_cell, first_cell, last_cell, same_cell, MemoryBalanced, InTime, place_of}
+use Rattle.vm_trace.specs.declared.page.Touched.{Touched}
+use Rattle.offline_memory.specs.Memory.{Cell, Access, Block, met_cell, left_cell, first_cell, last_cell, same_cell, MemoryBalanced, InTime, cell_place}
 use Rattle.vm_isa.specs.Words.{IsBytes}
 use Rattle.offline_memory.specs.Bytes.{KeepBytes, HasBytes}
-use Rattle.offline_memory.specs.Pages.{page_space, block_pointer, word_at, block_of, page_blocks, blocks_of, DistinctLabels, PagesOfBytes, InPages, SequentialMemory, IsOldTime, MemoryOfPages, memory_at_start, memory_at_end, UntouchedStays}
+use Rattle.vm_trace.specs.Pages.{page_space, block_pointer, block_word}
+use Rattle.vm_trace.specs.PageBlocks.{InPages}
+use Rattle.offline_memory.specs.Pages.{block_of, page_blocks, blocks_of, DistinctLabels, PagesOfBytes, SequentialMemory, IsOldTime, MemoryOfPages, memory_at_start, memory_at_end, UntouchedStays}
 use Rattle.offline_memory.proofs.MemoryLemmas.{Outstanding, same_cell-IsEquality, replays, inside, cell_at_member, Replays-ends, kept}
 use Rattle.offline_memory.proofs.ByteLemmas.{bytes, KeepBytes-rows}
+use Rattle.offline_memory.proofs.Members.{contains_from_member}
 
 -- two blocks stand at different places
 abbrev ApartBlocks : Block → Block → Type 0
-ApartBlocks b c = place_of (last_cell b) ≡ place_of (last_cell c) → ⊥
+ApartBlocks b c = cell_place (last_cell b) ≡ cell_place (last_cell c) → ⊥
 
 -- the place of a block determines its label and its number
 same_label : (k l i j : ℕ) → i < 16 → j < 16 → page_space k ≡ page_space l → block_pointer k i ≡ block_pointer l j → k ≡ l
 same_label k l i j hi hj s p = omega arith
 
-same_space : (a b : Cell) → place_of a ≡ place_of b → a.space ≡ b.space
+same_space : (a b : Cell) → cell_place a ≡ cell_place b → a.space ≡ b.space
 same_space a b h = ap (λ (x : ℕ × ℕ). x.0) h
 
-same_pointer : (a b : Cell) → place_of a ≡ place_of b → a.pointer ≡ b.pointer
+same_pointer : (a b : Cell) → cell_place a ≡ cell_place b → a.pointer ≡ b.pointer
 same_pointer a b h = ap (λ (x : ℕ × ℕ). x.1) h
 
 pub below_16 : AllByRecursion (λ i. i < 16) (range_with_len 0 16)
@@ -70,12 +73,12 @@ blocks_apart pages labels =
     Pairwise-flat_map ApartBlocks page_blocks pages (all_from_members (λ page. Pairwise ApartBlocks (page_blocks page)) pages (λ page h. page_apart page))
     (Pairwise-weaker (λ (a b : Touched). a.label ≡ b.label → ⊥) (λ a b. Across ApartBlocks (page_blocks a) (page_blocks b)) pages_apart pages (labels_apart pages labels))
 
-distinct_places : (pages : List Touched) → DistinctLabels pages → Distinct (map place_of (map last_cell (blocks_of pages)))
+distinct_places : (pages : List Touched) → DistinctLabels pages → Distinct (map cell_place (map last_cell (blocks_of pages)))
 distinct_places pages labels =
-    Pairwise-map (λ p q. p ≡ q → ⊥) place_of (map last_cell (blocks_of pages))
-    (Pairwise-map (λ x y. place_of x ≡ place_of y → ⊥) last_cell (blocks_of pages) (blocks_apart pages labels))
+    Pairwise-map (λ p q. p ≡ q → ⊥) cell_place (map last_cell (blocks_of pages))
+    (Pairwise-map (λ x y. cell_place x ≡ cell_place y → ⊥) last_cell (blocks_of pages) (blocks_apart pages labels))
 
-same_places : (blocks : List Block) → map place_of (map first_cell blocks) ≡ map place_of (map last_cell blocks)
+same_places : (blocks : List Block) → map cell_place (map first_cell blocks) ≡ map cell_place (map last_cell blocks)
 same_places [] = refl
 same_places (b ∷ blocks) = ap (λ (t : List (ℕ × ℕ)). (b.space, b.pointer) ∷ t) (same_places blocks)
 
@@ -88,17 +91,17 @@ outstanding_at_start pages accesses labels balanced = record {
 }
 
 -- a place of a final cell is a block of a page
-in_pages : (pages : List Touched) (space pointer : ℕ) → Member (space, pointer) (map place_of (map last_cell (blocks_of pages))) → InPages pages space pointer
+in_pages : (pages : List Touched) (space pointer : ℕ) → Member (space, pointer) (map cell_place (map last_cell (blocks_of pages))) → InPages pages space pointer
 in_pages pages space pointer h =
-    let cell : Image place_of (space, pointer) (map last_cell (blocks_of pages)) = member_map place_of (space, pointer) (map last_cell (blocks_of pages)) h in
+    let cell : Image cell_place (space, pointer) (map last_cell (blocks_of pages)) = member_map cell_place (space, pointer) (map last_cell (blocks_of pages)) h in
     let block : Image last_cell cell.of (blocks_of pages) = member_map last_cell cell.of (blocks_of pages) cell.stands in
     let page : Piece page_blocks block.of pages = member_flat_map page_blocks block.of pages block.stands in
     let number : Image (block_of page.of) block.of (range_with_len 0 16) = member_map (block_of page.of) block.of (range_with_len 0 16) page.inside in
-    let whole : place_of (last_cell (block_of page.of number.of)) ≡ (space, pointer) =
-    ap (λ (b : Block). place_of (last_cell b)) number.is ∙ ap place_of block.is ∙ cell.is in
+    let whole : cell_place (last_cell (block_of page.of number.of)) ≡ (space, pointer) =
+    ap (λ (b : Block). cell_place (last_cell b)) number.is ∙ ap cell_place block.is ∙ cell.is in
     record {
       page = page.of;
-      stands = page.stands;
+      stands = contains_from_member page.of pages page.stands;
       block = number.of;
       below = all_at (λ i. i < 16) (range_with_len 0 16) number.of number.stands below_16;
       is_space = sym (ap (λ (x : ℕ × ℕ). x.0) whole);
@@ -110,7 +113,7 @@ one_memory pages accesses labels time balanced =
     let due = outstanding_at_start pages accesses labels balanced in
     record {
       replays = replays (map first_cell (blocks_of pages)) (map last_cell (blocks_of pages)) accesses time due;
-      inside = all_weaker (λ a. Member (a.space, a.pointer) (map place_of (map last_cell (blocks_of pages)))) (λ a. InPages pages a.space a.pointer)
+      inside = all_weaker (λ a. Member (a.space, a.pointer) (map cell_place (map last_cell (blocks_of pages)))) (λ a. InPages pages a.space a.pointer)
           (λ a h. in_pages pages a.space a.pointer h) accesses
           (inside (map first_cell (blocks_of pages)) (map last_cell (blocks_of pages)) accesses time due);
     }
@@ -120,7 +123,7 @@ byte_at [] k h = omega arith
 byte_at (x ∷ xs) zero h = h.0
 byte_at (x ∷ xs) (suc k) h = byte_at xs k h.1
 
-word_bytes : (bytes : List ℕ) (block : ℕ) → IsBytes bytes → IsBytes (word_at bytes block)
+word_bytes : (bytes : List ℕ) (block : ℕ) → IsBytes bytes → IsBytes (block_word bytes block)
 word_bytes bytes block h = (byte_at bytes (4 * block) h, (byte_at bytes (4 * block + 1) h, (byte_at bytes (4 * block + 2) h, (byte_at bytes (4 * block + 3) h, tt))))
 
 first_words : (pages : List Touched) → PagesOfBytes pages → AllByRecursion (λ c. IsBytes c.word) (map first_cell (blocks_of pages))
@@ -128,7 +131,7 @@ first_words pages h =
     all_map (λ c. IsBytes c.word) first_cell (blocks_of pages)
     (all_flat_map (λ b. IsBytes b.first) page_blocks pages
     (all_weaker (λ (page : Touched). IsBytes page.old) (λ page. AllByRecursion (λ b. IsBytes b.first) (page_blocks page))
-    (λ page old. all_map (λ b. IsBytes b.first) (block_of page) (range_with_len 0 16) (all_from_members (λ i. IsBytes (word_at page.old i)) (range_with_len 0 16) (λ i m. word_bytes page.old i old))) pages h))
+    (λ page old. all_map (λ b. IsBytes b.first) (block_of page) (range_with_len 0 16) (all_from_members (λ i. IsBytes (block_word page.old i)) (range_with_len 0 16) (λ i m. word_bytes page.old i old))) pages h))
 
 pub all_bytes : (pages : List Touched) (rows : List (List Access)) → DistinctLabels pages → PagesOfBytes pages → InTime (flat_map (λ row. row) rows) → MemoryBalanced (blocks_of pages) (flat_map (λ row. row) rows)
     → AllByRecursion KeepBytes rows → AllByRecursion HasBytes (flat_map (λ row. row) rows)
@@ -178,7 +181,7 @@ pub untouched_stays : (pages : List Touched) (accesses : List Access) → Distin
 untouched_stays pages accesses labels memory = record {
   stays = λ page block h below away.
       let e =
-      some_same (word_at page.new block, slice_index page.times block) (word_at page.old block, 0)
+      some_same (block_word page.new block, slice_index page.times block) (block_word page.old block, 0)
       (sym ((memory_of_pages pages labels).at_end page block h below)
       ∙ sym (Replays-ends (memory_at_start pages) (memory_at_end pages) accesses memory.replays (page_space page.label) (block_pointer page.label block))
       ∙ kept accesses (memory_at_start pages) (page_space page.label) (block_pointer page.label block) away

@@ -5,7 +5,7 @@ use Rattle.air_core.specs.declared.event.Event.{Event}
 use Rattle.air_core.specs.Balance.{BalancedOn}
 use Rattle.air_core.specs.Orders.{Distinct}
 use Rattle.air_core.specs.Totals.{SameTotals, is_bus}
-use Rattle.offline_memory.specs.declared.page.Touched.{Touched}
+use Rattle.vm_trace.specs.declared.page.Touched.{Touched}
 use Rattle.offline_memory.specs.Memory.{Access, MemoryBalanced, InTime}
 use Rattle.offline_memory.specs.Bytes.{KeepBytes, HasBytes}
 use Rattle.offline_memory.specs.Pages.{blocks_of, DistinctLabels, PagesOfBytes, SequentialMemory, OrderedMemory, IsOldTime, MemoryOfPages, UntouchedStays}

@@ -2,5 +2,4 @@ pub mod Memory
 pub mod Bytes
 pub mod Pages
 pub mod MemoryEvents
-pub mod BlockMemory
 pub mod Laws

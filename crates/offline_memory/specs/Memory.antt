@@ -64,28 +64,28 @@ pub record InTime (accesses : List Access) : Type 0 where
   pub before : AllByRecursion (λ a. a.before < a.time) accesses
 
 -- where a cell stands
-abbrev pub place_of : Cell → ℕ × ℕ
-place_of c = (c.space, c.pointer)
+abbrev pub cell_place : Cell → ℕ × ℕ
+cell_place c = (c.space, c.pointer)
 
 -- the test for one place
-abbrev pub is_place : ℕ → ℕ → ℕ → ℕ → Bool
-is_place space pointer s p = nat_eq space s && nat_eq pointer p
+abbrev pub is_cell_at : ℕ → ℕ → ℕ → ℕ → Bool
+is_cell_at space pointer s p = nat_eq space s && nat_eq pointer p
 
 -- the word and the time at a place, by a list of cells
 abbrev pub cell_at : List Cell → ℕ → ℕ → Option (List ℕ × ℕ)
 cell_at [] s p = None
-cell_at (c ∷ cs) s p = cond (is_place c.space c.pointer s p) (Some (c.word, c.time)) (cell_at cs s p)
+cell_at (c ∷ cs) s p = cond (is_cell_at c.space c.pointer s p) (Some (c.word, c.time)) (cell_at cs s p)
 
 -- the memory after an access
-abbrev pub after : Access → (ℕ → ℕ → Option (List ℕ × ℕ)) → ℕ → ℕ → Option (List ℕ × ℕ)
-after a memory s p = cond (is_place a.space a.pointer s p) (Some (a.new, a.time)) (memory s p)
+abbrev pub after_access : Access → (ℕ → ℕ → Option (List ℕ × ℕ)) → ℕ → ℕ → Option (List ℕ × ℕ)
+after_access a memory s p = cond (is_cell_at a.space a.pointer s p) (Some (a.new, a.time)) (memory s p)
 
 -- from a memory the accesses lead to the final one: each meets its old word and the time before it at its place, and leaves its new word and its time
 abbrev pub Replays : (ℕ → ℕ → Option (List ℕ × ℕ)) → List Access → (ℕ → ℕ → Option (List ℕ × ℕ)) → Type 0
 Replays memory [] final = (s p : ℕ) → memory s p ≡ final s p
-Replays memory (a ∷ more) final = (memory a.space a.pointer ≡ Some (a.old, a.before)) × Replays (after a memory) more final
+Replays memory (a ∷ more) final = (memory a.space a.pointer ≡ Some (a.old, a.before)) × Replays (after_access a memory) more final
 
 -- the memory after several accesses
 abbrev pub after_all : List Access → (ℕ → ℕ → Option (List ℕ × ℕ)) → ℕ → ℕ → Option (List ℕ × ℕ)
 after_all [] memory = memory
-after_all (a ∷ more) memory = after_all more (after a memory)
+after_all (a ∷ more) memory = after_all more (after_access a memory)

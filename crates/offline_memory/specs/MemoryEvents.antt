@@ -2,7 +2,7 @@
 use Rattle.std.specs.Prelude.{List, [], ◌∷◌, ◌++◌, flat_map}
 use Rattle.air_core.specs.declared.event.Event.{Event}
 use Rattle.air_core.specs.Sheet.{sent, received}
-use Rattle.offline_memory.specs.declared.page.Touched.{Touched}
+use Rattle.vm_trace.specs.declared.page.Touched.{Touched}
 use Rattle.offline_memory.specs.Memory.{Access, Block, cell_tuple, met_cell, left_cell, first_cell, last_cell}
 use Rattle.offline_memory.specs.Pages.{page_blocks}
 

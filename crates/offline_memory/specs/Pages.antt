@@ -1,29 +1,19 @@
 -- Pages and their blocks.
-use Rattle.std.specs.Prelude.{◌≡◌, ℕ, ◌+◌, ◌*◌, ◌/◌, ◌%◌, ◌<◌, ◌⊎◌, List, [], ◌∷◌, map, flat_map, slice_index, Option, Some, IsPermutation}
+use Rattle.std.specs.Prelude.{◌≡◌, ℕ, ◌<◌, ◌⊎◌, List, map, flat_map, slice_index, Option, Some, IsPermutation}
 use Rattle.std.specs.List.{AllByRecursion, range_with_len}
-use Rattle.offline_memory.specs.declared.page.Touched.{Touched}
+use Rattle.vm_trace.specs.declared.page.Touched.{Touched}
+use Rattle.vm_trace.specs.Pages.{page_space, block_pointer, block_word}
+use Rattle.vm_trace.specs.PageBlocks.{InPages}
 use Rattle.air_core.specs.Orders.{Distinct, Member}
-use Rattle.offline_memory.specs.Memory.{Access, Block, InTime, cell_at, first_cell, last_cell, place_of, met_cell, Replays}
+use Rattle.offline_memory.specs.Memory.{Access, Block, InTime, cell_at, first_cell, last_cell, cell_place, met_cell, Replays}
 use Rattle.vm_isa.specs.Words.{IsBytes}
-
--- a label is space * 2^23 + leaf
-abbrev pub page_space : ℕ → ℕ
-page_space label = label / 8388608
-
--- the pointer of a block: 64 * leaf + 4 * block
-abbrev pub block_pointer : ℕ → ℕ → ℕ
-block_pointer label block = 64 * (label % 8388608) + 4 * block
-
--- the four bytes of a block
-abbrev pub word_at : List ℕ → ℕ → List ℕ
-word_at bytes block = slice_index bytes (4 * block) ∷ slice_index bytes (4 * block + 1) ∷ slice_index bytes (4 * block + 2) ∷ slice_index bytes (4 * block + 3) ∷ []
 
 abbrev pub block_of : Touched → ℕ → Block
 block_of page block = record {
   space = page_space page.label;
   pointer = block_pointer page.label block;
-  first = word_at page.old block;
-  last = word_at page.new block;
+  first = block_word page.old block;
+  last = block_word page.new block;
   final = slice_index page.times block;
 }
 
@@ -51,15 +41,6 @@ memory_at_start pages = cell_at (map first_cell (blocks_of pages))
 abbrev pub memory_at_end : List Touched → ℕ → ℕ → Option (List ℕ × ℕ)
 memory_at_end pages = cell_at (map last_cell (blocks_of pages))
 
--- a place is a block of one of the pages
-pub record InPages (pages : List Touched) (space pointer : ℕ) : Type 0 where
-  pub page : Touched
-  pub stands : Member page pages
-  pub block : ℕ
-  pub below : block < 16
-  pub is_space : space ≡ page_space page.label
-  pub is_pointer : pointer ≡ block_pointer page.label block
-
 -- the accesses are one sequential memory over the pages
 pub record SequentialMemory (pages : List Touched) (accesses : List Access) : Type 0 where
   pub replays : Replays (memory_at_start pages) accesses (memory_at_end pages)
@@ -79,15 +60,15 @@ IsOldTime accesses time = (time ≡ 0) ⊎ Member time (map (λ (a : Access). a.
 -- what the two memories have at the blocks of each page
 pub record MemoryOfPages (pages : List Touched) : Type 0 where
   pub at_start : (page : Touched) (block : ℕ) → Member page pages → block < 16
-      → memory_at_start pages (page_space page.label) (block_pointer page.label block) ≡ Some (word_at page.old block, 0)
+      → memory_at_start pages (page_space page.label) (block_pointer page.label block) ≡ Some (block_word page.old block, 0)
   pub at_end : (page : Touched) (block : ℕ) → Member page pages → block < 16
-      → memory_at_end pages (page_space page.label) (block_pointer page.label block) ≡ Some (word_at page.new block, slice_index page.times block)
+      → memory_at_end pages (page_space page.label) (block_pointer page.label block) ≡ Some (block_word page.new block, slice_index page.times block)
 
 -- no access is at this block
 abbrev pub Untouched : Touched → ℕ → List Access → Type 0
-Untouched page block accesses = AllByRecursion (λ a. place_of (met_cell a) ≡ (page_space page.label, block_pointer page.label block) → ⊥) accesses
+Untouched page block accesses = AllByRecursion (λ a. cell_place (met_cell a) ≡ (page_space page.label, block_pointer page.label block) → ⊥) accesses
 
 -- a block without accesses has its old word at the end, and the final time 0
 pub record UntouchedStays (pages : List Touched) (accesses : List Access) : Type 0 where
   pub stays : (page : Touched) (block : ℕ) → Member page pages → block < 16 → Untouched page block accesses
-      → (word_at page.new block ≡ word_at page.old block) × (slice_index page.times block ≡ 0)
+      → (block_word page.new block ≡ block_word page.old block) × (slice_index page.times block ≡ 0)

@@ -2,24 +2,23 @@
 ghost use Rattle.std.specs.Prelude.{◌≡◌, ◌<◌, ◌≤◌, ◌++◌, ◌∷◌, [], OnErr, OnOk};
 ghost use Rattle.air_core.specs.Sink.{Handed, HandedSome};
 ghost use Rattle.offline_memory.specs.MemoryEvents.{block_events, boundary_events};
-ghost use Rattle.offline_memory.specs.Pages.{block_of, block_pointer, page_space, word_at};
+ghost use Rattle.offline_memory.specs.Pages.{block_of};
+ghost use Rattle.vm_trace.specs.Pages.{block_pointer, block_word, page_space};
 
 use crate::{OutOfMemory, Touched};
 use air_core::{Event, EventSink, Side, Tuple, hand_counted};
+use vm_trace::SPACE_PAGES;
 
 // The bus on which memory is met.
 const MEMORY_BUS: u8 = 2;
 
-// How many pages a space has.
-const PAGES: u32 = 1 << 23;
-
 // A block of a page with the word that it has in these bytes, as the memory bus says it.
 fn cell(page: &Touched, bytes: &[u8; 64], block: u32, time: u32) -> Tuple
     requires { block < 16 }
-    ensures { result ≡ page_space page.now.label ∷ block_pointer page.now.label block ∷ (word_at bytes.now block ++ time ∷ []) }
+    ensures { result ≡ page_space page.now.label ∷ block_pointer page.now.label block ∷ (block_word bytes.now block ++ time ∷ []) }
 {
-    let space = page.label / PAGES;
-    let pointer = 64 * (page.label % PAGES) + 4 * block;
+    let space = page.label / SPACE_PAGES;
+    let pointer = 64 * (page.label % SPACE_PAGES) + 4 * block;
     let place = 4 * block as usize;
     Tuple::of(&[
         space,

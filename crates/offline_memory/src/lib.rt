@@ -3,10 +3,8 @@
 
 mod boundary;
 pub mod laws;
-mod page;
 #[cfg(test)]
 mod tests;
 
 pub use boundary::boundary_events;
-pub use page::{Digest, Touched};
-pub use std::alloc::AllocError as OutOfMemory;
+pub use vm_trace::{Digest, OutOfMemory, Touched};

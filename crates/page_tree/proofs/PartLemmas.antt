@@ -11,13 +11,13 @@ use Rattle.std.proofs.lemmas.List.Kept.{AllPairs-from_increasing}
 use Rattle.page_tree.specs.Tree.{some_below}
 use Rattle.sha2.specs.Sha256.{sha256}
 use Rattle.page_tree.specs.Opening.{AreLabels, needed, walk}
-use Rattle.page_tree.specs.Parts.{label_of, labels_of, bytes_at, IsPart, Parts}
-use Rattle.offline_memory.specs.declared.page.Touched.{Touched}
+use Rattle.page_tree.specs.Parts.{label_of, labels_of, labelled_bytes, IsSpan, IsParting}
+use Rattle.vm_trace.specs.declared.page.Touched.{Touched}
 use Rattle.page_tree.proofs.TreeLemmas.{some_below-true, some_below-from}
 use Rattle.page_tree.proofs.WalkLemmas.{needed-none, needed-leaf, needed-pair, walk-page}
 
 -- no place, no label
-pub part-none : (labels : List ℕ) (l i from to : ℕ) → IsPart labels l i from to → from ≡ to → some_below labels l i ≡ false
+pub part-none : (labels : List ℕ) (l i from to : ℕ) → IsSpan labels l i from to → from ≡ to → some_below labels l i ≡ false
 part-none labels l i from to part e =
     false_from_ne_true (some_below labels l i) (λ h.
     let t = some_below-true labels l i h in
@@ -29,12 +29,12 @@ part-none labels l i from to part e =
     (cases_lt k from))
 
 -- some place, some label
-pub part-some : (labels : List ℕ) (l i from to : ℕ) → IsPart labels l i from to → from < to → some_below labels l i ≡ true
+pub part-some : (labels : List ℕ) (l i from to : ℕ) → IsSpan labels l i from to → from < to → some_below labels l i ≡ true
 part-some labels l i from to part h =
     some_below-from labels l i (get_or labels from 0) (Contains-get_or labels from 0 (omega (arith, part.in_list))) (record { from = part.first from (omega arith) h; to = part.last from (omega arith) h })
 
 -- all labels lie below the root
-pub part-whole : (labels : List ℕ) → AreLabels labels → IsPart labels 25 0 0 (length labels)
+pub part-whole : (labels : List ℕ) → AreLabels labels → IsSpan labels 25 0 0 (length labels)
 part-whole labels h = record {
   ordered = omega arith;
   in_list = omega arith;
@@ -48,7 +48,7 @@ rises : (labels : List ℕ) (j k : ℕ) → IsStrictlyIncreasing labels → j < 
 rises labels j k rising h in_list = AllPairs-from_increasing labels rising j k 0 h in_list
 
 -- from the parting on, each label is `middle` or more
-reached-all : (labels : List ℕ) (from to middle at k : ℕ) → IsStrictlyIncreasing labels → Parts labels from to middle at → to ≤ length labels → at ≤ k → k < to → middle ≤ slice_index labels k
+reached-all : (labels : List ℕ) (from to middle at k : ℕ) → IsStrictlyIncreasing labels → IsParting labels from to middle at → to ≤ length labels → at ≤ k → k < to → middle ≤ slice_index labels k
 reached-all labels from to middle at k rising parts in_list low high =
     let first = parts.reached (omega arith) in
     ⊎_elim
@@ -56,9 +56,9 @@ reached-all labels from to middle at k rising parts in_list low high =
     (λ (other : at ≡ k → ⊥). omega (arith, first, rises labels at k rising (omega arith) (omega arith)))
     (cases_eq at k)
 
-pub part-left : (labels : List ℕ) (l half i from to middle at : ℕ) → l ≡ half + 1 → middle ≡ (2 * i + 1) * 2 ^ half → IsStrictlyIncreasing labels → IsPart labels l i from to → Parts labels from to middle at → IsPart labels half (2 * i) from at
+pub part-left : (labels : List ℕ) (l half i from to middle at : ℕ) → l ≡ half + 1 → middle ≡ (2 * i + 1) * 2 ^ half → IsStrictlyIncreasing labels → IsSpan labels l i from to → IsParting labels from to middle at → IsSpan labels half (2 * i) from at
 part-left labels l half i from to middle at e m rising whole parts =
-    let part : IsPart labels (suc half) i from to = subst (λ n. IsPart labels n i from to) (omega arith) whole in
+    let part : IsSpan labels (suc half) i from to = subst (λ n. IsSpan labels n i from to) (omega arith) whole in
     record {
       ordered = parts.low;
       in_list = omega (arith, parts.high, part.in_list);
@@ -72,9 +72,9 @@ part-left labels l half i from to middle at e m rising whole parts =
           (cases_lt k to);
     }
 
-pub part-right : (labels : List ℕ) (l half i from to middle at : ℕ) → l ≡ half + 1 → middle ≡ (2 * i + 1) * 2 ^ half → IsStrictlyIncreasing labels → IsPart labels l i from to → Parts labels from to middle at → IsPart labels half (2 * i + 1) at to
+pub part-right : (labels : List ℕ) (l half i from to middle at : ℕ) → l ≡ half + 1 → middle ≡ (2 * i + 1) * 2 ^ half → IsStrictlyIncreasing labels → IsSpan labels l i from to → IsParting labels from to middle at → IsSpan labels half (2 * i + 1) at to
 part-right labels l half i from to middle at e m rising whole parts =
-    let part : IsPart labels (suc half) i from to = subst (λ n. IsPart labels n i from to) (omega arith) whole in
+    let part : IsSpan labels (suc half) i from to = subst (λ n. IsSpan labels n i from to) (omega arith) whole in
     record {
       ordered = parts.high;
       in_list = part.in_list;
@@ -133,25 +133,25 @@ rising-tail n labels h k low =
     let next : suc k + 1 ≡ suc (k + 1) = omega arith in
     subst (λ j. slice_index labels k < slice_index (n ∷ labels) j) next (h (suc k) (omega arith))
 
-pub bytes_at-place : {P : Type 0} (label : P → ℕ) (side : P → List ℕ) (none : List ℕ) (ps : List P) (k : ℕ) (d : P) → IsStrictlyIncreasing (map label ps) → k < length ps → bytes_at label side none ps (label (get_or ps k d)) ≡ side (get_or ps k d)
-unfolding bytes_at
-bytes_at-place label side none [] k d rising h = absurd (omega arith)
-bytes_at-place label side none (p ∷ ps) zero d rising h = cond-true (eqb (label p) (label p)) (side p) (bytes_at label side none ps (label p)) (eq-eqb (label p) (label p) refl)
-bytes_at-place label side none (p ∷ ps) (suc k) d rising h =
+pub labelled_bytes-place : {P : Type 0} (label : P → ℕ) (side : P → List ℕ) (none : List ℕ) (ps : List P) (k : ℕ) (d : P) → IsStrictlyIncreasing (map label ps) → k < length ps → labelled_bytes label side none ps (label (get_or ps k d)) ≡ side (get_or ps k d)
+unfolding labelled_bytes
+labelled_bytes-place label side none [] k d rising h = absurd (omega arith)
+labelled_bytes-place label side none (p ∷ ps) zero d rising h = cond-true (eqb (label p) (label p)) (side p) (labelled_bytes label side none ps (label p)) (eq-eqb (label p) (label p) refl)
+labelled_bytes-place label side none (p ∷ ps) (suc k) d rising h =
     let q = get_or ps k d in
     let in_list : k < length ps = omega arith in
     let read : get_or (map label ps) k 0 ≡ label q = get_or-map label ps k d 0 in_list in
     let more : label p < get_or (map label ps) k 0 = rises (label p ∷ map label ps) zero (suc k) rising (omega arith) (omega (arith, length-map ps label)) in
-    cond-false (eqb (label p) (label q)) (side p) (bytes_at label side none ps (label q)) (ne_eqb (label p) (label q) (λ e. absurd (omega arith)))
-    ∙ bytes_at-place label side none ps k d (rising-tail (label p) (map label ps) rising) in_list
+    cond-false (eqb (label p) (label q)) (side p) (labelled_bytes label side none ps (label q)) (ne_eqb (label p) (label q) (λ e. absurd (omega arith)))
+    ∙ labelled_bytes-place label side none ps k d (rising-tail (label p) (map label ps) rising) in_list
 
 -- where no item has the label
-pub bytes_at-none : {P : Type 0} (label : P → ℕ) (side : P → List ℕ) (none : List ℕ) (ps : List P) (j : ℕ) → (Contains (map label ps) j → ⊥) → bytes_at label side none ps j ≡ none
-unfolding bytes_at
-bytes_at-none label side none [] j h = refl
-bytes_at-none label side none (p ∷ ps) j h =
-    cond-false (eqb (label p) j) (side p) (bytes_at label side none ps j) (ne_eqb (label p) j (λ e. h (zero, omega arith, e)))
-    ∙ bytes_at-none label side none ps j (λ has. h (suc has.0, omega (arith, has.1), has.2))
+pub labelled_bytes-none : {P : Type 0} (label : P → ℕ) (side : P → List ℕ) (none : List ℕ) (ps : List P) (j : ℕ) → (Contains (map label ps) j → ⊥) → labelled_bytes label side none ps j ≡ none
+unfolding labelled_bytes
+labelled_bytes-none label side none [] j h = refl
+labelled_bytes-none label side none (p ∷ ps) j h =
+    cond-false (eqb (label p) j) (side p) (labelled_bytes label side none ps j) (ne_eqb (label p) j (λ e. h (zero, omega arith, e)))
+    ∙ labelled_bytes-none label side none ps j (λ has. h (suc has.0, omega (arith, has.1), has.2))
 
 pub length-labels_of : (pages : List Touched) → length (labels_of pages) ≡ length pages
 unfolding labels_of
@@ -162,28 +162,28 @@ unfolding labels_of
 labels_of-place pages k d h = get_or-map label_of pages k d 0 h
 
 -- at a leaf, the place has the leaf's label
-pub part-leaf : (labels : List ℕ) (i from to : ℕ) → IsPart labels 0 i from to → from < to → slice_index labels from ≡ i
+pub part-leaf : (labels : List ℕ) (i from to : ℕ) → IsSpan labels 0 i from to → from < to → slice_index labels from ≡ i
 part-leaf labels i from to part h = omega (arith, part.first from (omega arith) h, part.last from (omega arith) h)
 
-pub part-item : {P : Type 0} (label : P → ℕ) (side : P → List ℕ) (none : List ℕ) (ps : List P) (i from to : ℕ) (d : P) → IsStrictlyIncreasing (map label ps) → IsPart (map label ps) 0 i from to → from < to → bytes_at label side none ps i ≡ side (get_or ps from d)
+pub part-item : {P : Type 0} (label : P → ℕ) (side : P → List ℕ) (none : List ℕ) (ps : List P) (i from to : ℕ) (d : P) → IsStrictlyIncreasing (map label ps) → IsSpan (map label ps) 0 i from to → from < to → labelled_bytes label side none ps i ≡ side (get_or ps from d)
 part-item label side none ps i from to d rising part h =
     let in_list : from < length ps = omega (arith, part.in_list, length-map ps label) in
     let at : label (get_or ps from d) ≡ i = sym (get_or-map label ps from d 0 in_list) ∙ part-leaf (map label ps) i from to part h in
-    ap (λ j. bytes_at label side none ps j) (sym at) ∙ bytes_at-place label side none ps from d rising in_list
+    ap (λ j. labelled_bytes label side none ps j) (sym at) ∙ labelled_bytes-place label side none ps from d rising in_list
 
 -- the same at the walk: at a leaf it hashes the page at the place
-pub walk-page_at : (side : Touched → List ℕ) (pages : List Touched) (l i from to : ℕ) (d : Touched) (s : List (List ℕ)) → l ≡ 0 → IsStrictlyIncreasing (labels_of pages) → IsPart (labels_of pages) l i from to → from < to → sha256 (side (get_or pages from d)) ≡ (walk (labels_of pages) (bytes_at label_of side [] pages) l i s).digest
+pub walk-page_at : (side : Touched → List ℕ) (pages : List Touched) (l i from to : ℕ) (d : Touched) (s : List (List ℕ)) → l ≡ 0 → IsStrictlyIncreasing (labels_of pages) → IsSpan (labels_of pages) l i from to → from < to → sha256 (side (get_or pages from d)) ≡ (walk (labels_of pages) (labelled_bytes label_of side [] pages) l i s).digest
 unfolding labels_of
 walk-page_at side pages l i from to d s e rising part h =
     let labels = map label_of pages in
-    let bytes = bytes_at label_of side [] pages in
-    let part' : IsPart labels 0 i from to = subst (λ n. IsPart labels n i from to) e part in
+    let bytes = labelled_bytes label_of side [] pages in
+    let part' : IsSpan labels 0 i from to = subst (λ n. IsSpan labels n i from to) e part in
     ap sha256 (sym (part-item label_of side [] pages i from to d rising part' h))
     ∙ sym (walk-page labels bytes i s (part-some labels 0 i from to part' h))
     ∙ ap (λ n. (walk labels bytes n i s).digest) (sym e)
 
 -- two partings of all labels give the part below any node
-pub part-between : (labels : List ℕ) (l i n low high from to : ℕ) → n ≡ length labels → low ≡ i * 2 ^ l → high ≡ (i + 1) * 2 ^ l → IsStrictlyIncreasing labels → Parts labels 0 n low from → Parts labels from n high to → IsPart labels l i from to
+pub part-between : (labels : List ℕ) (l i n low high from to : ℕ) → n ≡ length labels → low ≡ i * 2 ^ l → high ≡ (i + 1) * 2 ^ l → IsStrictlyIncreasing labels → IsParting labels 0 n low from → IsParting labels from n high to → IsSpan labels l i from to
 part-between labels l i n low high from to e is_low is_high rising first second = record {
   ordered = second.low;
   in_list = omega (arith, second.high);

@@ -8,7 +8,7 @@ use Rattle.std.proofs.lemmas.Bool.{cases_eq}
 use Rattle.std.proofs.lemmas.Bool.Decides.{nat_tests}
 use Rattle.std.proofs.lemmas.List.{get_or-map, get_or-take, get_or-drop, length-map}
 use Rattle.std.proofs.lemmas.List.Kept.{AllPairs-from_increasing}
-use Rattle.page_tree.specs.Parts.{Parts}
+use Rattle.page_tree.specs.Parts.{IsParting}
 
 module _ {X : Type 0} (key : X → ℕ) (xs : List X) (from to : ℕ) (ordered : from ≤ to) (in_list : to ≤ length xs) where
   -- the element at a place among them
@@ -35,7 +35,7 @@ module _ {X : Type 0} (key : X → ℕ) (xs : List X) (from to : ℕ) (ordered :
       (cases_eq i j)
 
   pub parts_from_point : (middle i : ℕ) (d : X) → i ≤ length (slice_range xs from to)
-      → IsPartitionPoint (λ x. ltb (key x) middle ≡ true) (λ x. ltb (key x) middle ≡ false) (slice_range xs from to) i → Parts (map key xs) from to middle (from + i)
+      → IsPartitionPoint (λ x. ltb (key x) middle ≡ true) (λ x. ltb (key x) middle ≡ false) (slice_range xs from to) i → IsParting (map key xs) from to middle (from + i)
   parts_from_point middle i d bound point = record {
     low = omega arith;
     high = omega (arith, bound, length_among);
@@ -55,7 +55,7 @@ module _ {X : Type 0} (key : X → ℕ) (xs : List X) (from to : ℕ) (ordered :
   -- from the clauses of a search for the first place whose label is not below the middle
   pub parts_from_search : {F : Type 0} {g : Mut F (Bor X × Unit {0}) Bool} {f : F} (middle i : ℕ) (d : X) → IsStrictlyIncreasing (map key xs) → i ≤ length (slice_range xs from to)
       → ((q : X → Bool) → ComputesKey g q f → IsPartitionedBy q (slice_range xs from to) → IsPartitionPoint (λ x. q x ≡ true) (λ x. q x ≡ false) (slice_range xs from to) i)
-      → ((a : Bor X × Unit {0}) (r : Bool) (f' : F) → Called g f a r f' → (r ≡ ltb (key a.0.now) middle) × (f' ≡ f)) → Parts (map key xs) from to middle (from + i)
+      → ((a : Bor X × Unit {0}) (r : Bool) (f' : F) → Called g f a r f' → (r ≡ ltb (key a.0.now) middle) × (f' ≡ f)) → IsParting (map key xs) from to middle (from + i)
   parts_from_search {g = g} middle i d rising bound clause called =
       parts_from_point middle i d bound
       (IsPartitionPoint-from_clause (λ x. ltb (key x) middle) {g = g} (slice_range xs from to) i clause (IsPartitionedBy-ltb key (slice_range xs from to) middle (among_ascend rising)) called)

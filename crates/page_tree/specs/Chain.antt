@@ -19,9 +19,9 @@ pub record IsOpening (t : Opening) : Type 0 where
   pub number : length t.siblings ≡ siblings_needed t.labels
 
 -- the leaves after these turns
-unfoldable pub after : Leaves → List Opening → Leaves
-after m [] = m
-after m (t ∷ ts) = after (replaced m t.labels t.new) ts
+unfoldable pub leaves_after : Leaves → List Opening → Leaves
+leaves_after m [] = m
+leaves_after m (t ∷ ts) = leaves_after (replaced m t.labels t.new) ts
 
 -- the turns lead from the root `start` to the root `end`
 unfoldable pub IsChain : List ℕ → List Opening → List ℕ → Type 0
@@ -41,15 +41,15 @@ IsHashed (t ∷ ts) x =
     Contains (opening_nodes t.labels t.old t.siblings) x ⊎ (Contains (opening_nodes t.labels t.new t.siblings) x ⊎ IsHashed ts x)
 
 -- x is a node of the first tree or was hashed in a turn
-abbrev pub IsHeld : Leaves → List Opening → List ℕ → Type 0
-IsHeld m ts x = IsNode m x ⊎ IsHashed ts x
+abbrev pub IsChainNode : Leaves → List Opening → List ℕ → Type 0
+IsChainNode m ts x = IsNode m x ⊎ IsHashed ts x
 
 -- what a chain of openings shows
 pub record ChainOpens (m : Leaves) (ts : List Opening) (end : List ℕ) : Type 0 where
   pub matched : AreMatched m ts
-  pub end_root : root (after m ts) ≡ end
-  pub nodes : (x : List ℕ) → IsNode (after m ts) x → IsHeld m ts x
+  pub end_root : root (leaves_after m ts) ≡ end
+  pub nodes : (x : List ℕ) → IsNode (leaves_after m ts) x → IsChainNode m ts x
 
 -- x is held by the chain or was hashed on the way from the leaf at the label
 abbrev pub IsHeldWithPath : Leaves → List Opening → ℕ → List ℕ → List (List ℕ) → List ℕ → Type 0
-IsHeldWithPath m ts label leaf path x = IsHeld m ts x ⊎ Contains (climbed label leaf path) x
+IsHeldWithPath m ts label leaf path x = IsChainNode m ts x ⊎ Contains (climbed label leaf path) x

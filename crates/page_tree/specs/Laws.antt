@@ -5,15 +5,15 @@ use Rattle.std.specs.List.Sorted.{IsStrictlyIncreasing}
 use Rattle.sha2.specs.Sha256.{sha256}
 use Rattle.elf_image.specs.Loaded.{Loaded}
 use Rattle.vm_isa.specs.Blocks.{Blocks}
-use Rattle.offline_memory.specs.declared.page.Touched.{Touched}
-use Rattle.offline_memory.specs.BlockMemory.{ArePages, HasOld, HasNew}
+use Rattle.vm_trace.specs.declared.page.Touched.{Touched}
+use Rattle.vm_trace.specs.PageBlocks.{ArePages, HasOldWords, HasNewWords}
 use Rattle.page_tree.specs.MapBlocks.{AreBlocksOf}
 use Rattle.page_tree.specs.Parts.{labels_of, with_pages}
 use Rattle.page_tree.specs.Tree.{Leaves, node, root, IsNode, IsNodeBelow, Collision}
 use Rattle.page_tree.specs.Opening.{AreDigests, AreLabels, walk, needed, Opened, OpensOrCollides, opening_root, opening_nodes, IsComplete}
 use Rattle.page_tree.specs.Path.{climb, path_of, ShowsOrCollides}
 use Rattle.page_tree.specs.Start.{start_map}
-use Rattle.page_tree.specs.Chain.{Opening, IsChain, ChainOpens, AreMatched, IsHeld, IsHeldWithPath, after}
+use Rattle.page_tree.specs.Chain.{Opening, IsChain, ChainOpens, AreMatched, IsChainNode, IsHeldWithPath, leaves_after}
 
 -- A walk leaves the siblings that it does not need, whatever the bytes at the labels are.
 abbrev pub WalkTakesWhatItNeeds : Type 0
@@ -37,7 +37,7 @@ OpensAtRoot = (m old new : Leaves) (labels : List ℕ) (siblings : List (List �
 -- left, or two different nodes that are held have one digest.
 abbrev pub ChainsOpen : Type 0
 ChainsOpen = (m : Leaves) (openings : List Opening) (end : List ℕ) → IsChain (root m) openings end
-    → ChainOpens m openings end ⊎ Collision (IsHeld m openings) (IsHeld m openings)
+    → ChainOpens m openings end ⊎ Collision (IsChainNode m openings) (IsChainNode m openings)
 
 -- a path of 25 digests from a leaf to the root of a tree shows that leaf, or a collision
 abbrev pub PathsShow : Type 0
@@ -50,7 +50,7 @@ abbrev pub ChainsShow : Type 0
 ChainsShow = (m : Leaves) (openings : List Opening) (end : List ℕ) (label : ℕ) (leaf : List ℕ) (path : List (List ℕ))
     → IsChain (root m) openings end → label < 2 ^ 25 → length path ≡ 25 → AreDigests path
     → climb label leaf path ≡ end
-    → (AreMatched m openings × (leaf ≡ after m openings label))
+    → (AreMatched m openings × (leaf ≡ leaves_after m openings label))
     ⊎ Collision (IsHeldWithPath m openings label leaf path) (IsHeldWithPath m openings label leaf path)
 
 -- a tree's own siblings open it, and give the root of the tree with other bytes at the labels
@@ -86,9 +86,9 @@ StartLeavesHave64Bytes = (image : Loaded) (label : ℕ) → length (start_map im
 -- Where a map's leaves are the pages' old bytes, and blocks are the map's, the blocks have the pages' old words.
 abbrev pub PagesHaveTheMapsBlocks : Type 0
 PagesHaveTheMapsBlocks = (m : Leaves) (pages : List Touched) (blocks : Blocks) → ArePages pages → All (λ p. p.old ≡ m p.label) pages
-    → AreBlocksOf m blocks → HasOld pages blocks
+    → AreBlocksOf m blocks → HasOldWords pages blocks
 
 -- And blocks that have the pages' new words, and elsewhere what they had, are those of the map with the pages' new bytes.
 abbrev pub PagesLeaveTheNewBlocks : Type 0
-PagesLeaveTheNewBlocks = (m : Leaves) (pages : List Touched) (old new : Blocks) → IsStrictlyIncreasing (labels_of pages) → AreBlocksOf m old → HasNew pages old new
+PagesLeaveTheNewBlocks = (m : Leaves) (pages : List Touched) (old new : Blocks) → IsStrictlyIncreasing (labels_of pages) → AreBlocksOf m old → HasNewWords pages old new
     → AreBlocksOf (with_pages m pages) new

@@ -2,7 +2,7 @@
 ghost use Rattle.std.specs.Prelude.{◌≡◌, ◌++◌};
 ghost use Rattle.sha2.specs.Sha256.{sha256};
 
-use offline_memory::Digest;
+use vm_trace::Digest;
 use sha2::{Digest as Hash, Sha256};
 
 /// The digest of a leaf.

@@ -14,7 +14,7 @@ mod tests;
 mod tree;
 
 pub use leaf::Leaf;
-pub use offline_memory::{Digest, OutOfMemory, Touched};
 pub use opening::{OpeningError, roots_of, sibling_count};
-pub use path::{PUBLIC_LABEL, path_root};
+pub use path::path_root;
 pub use tree::Tree;
+pub use vm_trace::{Digest, OutOfMemory, PUBLIC_LABEL, Touched};

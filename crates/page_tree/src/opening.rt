@@ -3,7 +3,7 @@ ghost use Rattle.std.specs.Prelude.{◌≡◌, ◌≢◌, ℕ, ◌+◌, ◌*◌,
 ghost use Rattle.std.specs.List.Sorted.{IsStrictlyIncreasing};
 ghost use Rattle.page_tree.specs.Tree.{Leaves, root};
 ghost use Rattle.page_tree.specs.Opening.{AreLabels, needed, siblings_needed, walk};
-ghost use Rattle.page_tree.specs.Parts.{labels_of, old_at, new_at, IsPart, Parts, AreRoots, AreTreeRoots, IsOpenedBy, PagesOpenOrCollide};
+ghost use Rattle.page_tree.specs.Parts.{labels_of, old_bytes_at, new_bytes_at, IsSpan, IsParting, AreRoots, AreTreeRoots, IsOpenedBy, PagesOpenOrCollide};
 
 use crate::hash::{leaf_digest, pair_digest};
 use crate::node::{HIGHEST, Node, Places};
@@ -23,7 +23,7 @@ pub fn parting(labels: &[u32], places: Places, middle: u32) -> usize
     requires rising { IsStrictlyIncreasing labels.now }
     requires ordered { places.from ≤ places.to }
     requires in_list { places.to ≤ length labels.now }
-    ensures { Parts labels.now places.from places.to middle result }
+    ensures { IsParting labels.now places.from places.to middle result }
 {
     places.from + labels[places.from..places.to].partition_point(|label| *label < middle)
 }
@@ -33,7 +33,7 @@ fn needed_below(labels: &[u32], top: Node, places: Places) -> u32
     requires rising { IsStrictlyIncreasing labels.now }
     requires in_tree { (top.index + 1) * 2 ^ top.level ≤ 2 ^ 25 }
     requires small { top.level ≤ 25 }
-    requires part { IsPart labels.now top.level top.index places.from places.to }
+    requires part { IsSpan labels.now top.level top.index places.from places.to }
     ensures { result ≡ needed labels.now top.level top.index }
 {
     if places.from == places.to {
@@ -64,7 +64,7 @@ fn page_parting(pages: &[Touched], places: Places, middle: u32) -> usize
     requires rising { IsStrictlyIncreasing (labels_of pages.now) }
     requires ordered { places.from ≤ places.to }
     requires in_list { places.to ≤ length pages.now }
-    ensures { Parts (labels_of pages.now) places.from places.to middle result }
+    ensures { IsParting (labels_of pages.now) places.from places.to middle result }
 {
     places.from + pages[places.from..places.to].partition_point(|page| page.label < middle)
 }
@@ -100,11 +100,11 @@ fn roots_below(
     requires in_tree { (top.index + 1) * 2 ^ top.level ≤ 2 ^ 25 }
     requires small { top.level ≤ 25 }
     requires in_list { places.to ≤ length pages.now }
-    requires part { IsPart (labels_of pages.now) top.level top.index places.from places.to }
+    requires part { IsSpan (labels_of pages.now) top.level top.index places.from places.to }
     requires few { taken ≤ top.index * 2 ^ top.level }
     ensures taken { result.taken ≡ taken + needed (labels_of pages.now) top.level top.index }
-    ensures old { result.old ≡ (walk (labels_of pages.now) (old_at pages.now) top.level top.index (drop taken siblings.now)).digest }
-    ensures new { result.new ≡ (walk (labels_of pages.now) (new_at pages.now) top.level top.index (drop taken siblings.now)).digest }
+    ensures old { result.old ≡ (walk (labels_of pages.now) (old_bytes_at pages.now) top.level top.index (drop taken siblings.now)).digest }
+    ensures new { result.new ≡ (walk (labels_of pages.now) (new_bytes_at pages.now) top.level top.index (drop taken siblings.now)).digest }
 {
     if places.from == places.to {
         let digest = sibling_at(siblings, taken);

@@ -4,9 +4,7 @@ ghost use Rattle.page_tree.specs.Path.{climb};
 
 use crate::Digest;
 use crate::hash::{leaf_digest, pair_digest};
-
-/// The label of the page of public bytes.
-pub const PUBLIC_LABEL: u32 = 25_165_824;
+use vm_trace::PUBLIC_LABEL;
 
 /// The root to which a path leads from the page of public bytes: of each level from 0 up, the path has
 /// the digest beside the way.

@@ -7,12 +7,7 @@ ghost use Rattle.page_tree.specs.Start.{memory_leaf, start_map};
 use crate::{OutOfMemory, Tree};
 use elf_image::Image;
 use std::alloc::Global;
-
-// How many leaves a space has.
-const LEAVES: u32 = 1 << 23;
-
-// The label of memory's first leaf.
-const MEMORY: u32 = 2 * LEAVES;
+use vm_trace::{MEMORY_LABEL, SPACE_PAGES};
 
 // The bytes of memory at one leaf.
 fn memory_leaf(image: &Image, leaf: u32) -> [u8; 64]
@@ -47,9 +42,9 @@ impl Tree {
         let Some(load) = image.load(place) else {
             return Ok(());
         };
-        let from = (load.address / 64).min(LEAVES);
+        let from = (load.address / 64).min(SPACE_PAGES);
         let end = load.address as u64 + load.bytes.len() as u64;
-        let to = end.div_ceil(64).min(LEAVES as u64) as u32;
+        let to = end.div_ceil(64).min(SPACE_PAGES as u64) as u32;
         self.put_memory(image, from, to)?;
         Ok(())
     }
@@ -70,12 +65,12 @@ impl Tree {
     // Puts one leaf of memory, unless it is zeros.
     fn put_leaf(&mut self, image: &Image, leaf: u32) -> Result<(), OutOfMemory>
         requires in_space { leaf < 2 ^ 23 }
-        requires begun { IsRightOrZeros image.now (leaves_of self.old) (16777216 + leaf) }
-        ensures { OnOk result ((label : ℕ) → leaves_of self.new label ≡ put_at (leaves_of self.old) (16777216 + leaf) (start_map image.now (16777216 + leaf)) label) }
+        requires begun { IsRightOrZeros image.now (leaves_of self.old) (MEMORY_LABEL + leaf) }
+        ensures { OnOk result ((label : ℕ) → leaves_of self.new label ≡ put_at (leaves_of self.old) (MEMORY_LABEL + leaf) (start_map image.now (MEMORY_LABEL + leaf)) label) }
     {
         let bytes = memory_leaf(image, leaf);
         if bytes != [0; 64] {
-            self.put(MEMORY + leaf, bytes)?;
+            self.put(MEMORY_LABEL + leaf, bytes)?;
         }
         Ok(())
     }

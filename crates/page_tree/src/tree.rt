@@ -4,7 +4,7 @@ ghost use Rattle.std.specs.List.Sorted.{IsStrictlyIncreasing};
 ghost use Rattle.sha2.specs.Sha256.{sha256};
 ghost use Rattle.page_tree.specs.Tree.{node, root};
 ghost use Rattle.page_tree.specs.Opening.{AreLabels, siblings_below, siblings_of};
-ghost use Rattle.page_tree.specs.Parts.{IsPart, Parts};
+ghost use Rattle.page_tree.specs.Parts.{IsSpan, IsParting};
 ghost use Rattle.page_tree.specs.Path.{beside, path_of};
 ghost use Rattle.page_tree.specs.Kept.{leaf_labels, leaves_of, put_at, AreKept, AreZeroDigests};
 
@@ -12,8 +12,7 @@ use crate::hash::{leaf_digest, pair_digest};
 use crate::leaf::Leaf;
 use crate::node::{HIGHEST, Node, Places};
 use crate::opening::parting;
-use crate::path::PUBLIC_LABEL;
-use crate::{Digest, OutOfMemory};
+use crate::{Digest, OutOfMemory, PUBLIC_LABEL};
 use std::alloc::Global;
 use std::marker::Model;
 
@@ -35,7 +34,7 @@ fn leaf_parting(leaves: &[Leaf], places: Places, middle: u32) -> usize
     requires rising { IsStrictlyIncreasing (leaf_labels leaves.now) }
     requires ordered { places.from ≤ places.to }
     requires in_list { places.to ≤ length leaves.now }
-    ensures { Parts (leaf_labels leaves.now) places.from places.to middle result }
+    ensures { IsParting (leaf_labels leaves.now) places.from places.to middle result }
 {
     places.from + leaves[places.from..places.to].partition_point(|leaf| leaf.label < middle)
 }
@@ -47,7 +46,7 @@ fn digest_below(leaves: &[Leaf], zeros: &[Digest; 26], top: Node, places: Places
     requires in_tree { (top.index + 1) * 2 ^ top.level ≤ 2 ^ 25 }
     requires small { top.level ≤ 25 }
     requires in_list { places.to ≤ length leaves.now }
-    requires part { IsPart (leaf_labels leaves.now) top.level top.index places.from places.to }
+    requires part { IsSpan (leaf_labels leaves.now) top.level top.index places.from places.to }
     ensures { result ≡ sha256 (node (leaves_of leaves.now) top.level top.index) }
 {
     if places.from == places.to {
@@ -104,8 +103,8 @@ fn add_siblings(
     requires in_tree { (top.index + 1) * 2 ^ top.level ≤ 2 ^ 25 }
     requires small { top.level ≤ 25 }
     requires leaves_in_list { kept.to ≤ length leaves.now }
-    requires leaves_part { IsPart (leaf_labels leaves.now) top.level top.index kept.from kept.to }
-    requires labels_part { IsPart labels.now top.level top.index places.from places.to }
+    requires leaves_part { IsSpan (leaf_labels leaves.now) top.level top.index kept.from kept.to }
+    requires labels_part { IsSpan labels.now top.level top.index places.from places.to }
     ensures { OnOk result (siblings.new.items ≡ siblings.old.items ++ siblings_below (leaves_of leaves.now) labels.now top.level top.index) }
 {
     if places.from == places.to {

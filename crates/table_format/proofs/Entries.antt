@@ -6,7 +6,7 @@ use Rattle.std.proofs.lemmas.List.{append-nil}
 use Rattle.vm_host.specs.declared.Slot.TheVariants.{Second}
 use Rattle.vm_host.specs.State.{HostState}
 use Rattle.vm_field.specs.Field.{modulus}
-use Rattle.table_format.specs.declared.CountEntry.{CountEntry}
+use Rattle.vm_trace.specs.declared.count.CountEntry.{CountEntry}
 use Rattle.table_format.specs.declared.TableError.{TableError}
 use Rattle.table_format.specs.Reading.{Gives}
 use Rattle.std.specs.List.{AllByRecursion}

@@ -6,7 +6,7 @@ use borrow.Rule.Slice.PartMut.{put_mid}
 use Rattle.std.proofs.lemmas.Nat.{from_le_bytes-to_le_bytes_4}
 use Rattle.std.specs.Int.{w32, from_le_bytes}
 use Rattle.std.specs.List.{flat_map}
-use Rattle.table_format.specs.declared.CountEntry.{CountEntry}
+use Rattle.vm_trace.specs.declared.count.CountEntry.{CountEntry}
 use Rattle.std.specs.List.{AllByRecursion}
 use Rattle.table_format.specs.File.{number_text, row_text, entry_text, IsNumber, IsElement, IsByte, IsRow, IsEntry, AreEntries}
 

@@ -9,7 +9,7 @@ use Rattle.vm_host.specs.State.{HostState}
 use Rattle.vm_host.specs.ReadUpTo.{Took}
 use Rattle.vm_host.proofs.Reading.{took_both, whole_at_end}
 use Rattle.table_format.specs.declared.Connector.{Connector}
-use Rattle.table_format.specs.declared.CountEntry.{CountEntry}
+use Rattle.vm_trace.specs.declared.count.CountEntry.{CountEntry}
 use Rattle.table_format.specs.declared.TableFile.{TableFile}
 use Rattle.table_format.specs.declared.TableError.{TableError}
 use Rattle.table_format.specs.declared.TableError.TheVariants.{Refused, Fault}

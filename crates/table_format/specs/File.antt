@@ -1,10 +1,10 @@
 -- What a file of version 0 says, its bytes, and which files are of the form.
-use Rattle.std.specs.Prelude.{◌≡◌, ℕ, zero, suc, ◌+◌, ◌^◌, ◌≤◌, ◌<◌, List, [], ◌∷◌, ◌++◌, length}
+use Rattle.std.specs.Prelude.{◌≡◌, ℕ, ◌≤◌, ◌<◌, List, [], ◌∷◌, ◌++◌, length}
 use Rattle.std.specs.List.{AllByRecursion, flat_map}
 use Rattle.std.specs.Int.{w32, to_le_bytes}
-use Rattle.vm_field.specs.Field.{modulus}
+pub use Rattle.vm_trace.specs.Canonical.{IsNumber, IsElement, height_of, IsEntry, AreEntries}
 use Rattle.table_format.specs.declared.Connector.{Connector}
-use Rattle.table_format.specs.declared.CountEntry.{CountEntry}
+use Rattle.vm_trace.specs.declared.count.CountEntry.{CountEntry}
 use Rattle.table_format.specs.declared.TableFile.{TableFile}
 
 pub record FileValue : Type 0 where
@@ -54,37 +54,12 @@ spelling v = head_text ++ (row_text (connector_row v.connector) ++ (v.height_cod
 abbrev pub IsByte : ℕ → Type 0
 IsByte n = n < 256
 
-abbrev pub IsNumber : ℕ → Type 0
-IsNumber n = n < 2 ^ 32
-
--- a number in the one form that an element of the field has
-abbrev pub IsElement : ℕ → Type 0
-IsElement n = n < modulus
-
 -- three elements
 abbrev pub IsRow : List ℕ → Type 0
 IsRow row = (length row ≡ 3) × AllByRecursion IsElement row
 
 abbrev pub AreRows : List (List ℕ) → Type 0
 AreRows rows = AllByRecursion IsRow rows
-
--- the height that a code stands for
-abbrev pub height_of : ℕ → ℕ
-height_of zero = 0
-height_of (suc k) = 2 ^ k
-
--- a place from least to below the table's end, and a count that isn't 0
-pub record IsEntry (end least : ℕ) (e : CountEntry) : Type 0 where
-  pub low : least ≤ e.place
-  pub high : e.place < end
-  pub used : 0 < e.count
-  pub place : IsNumber e.place
-  pub count : IsNumber e.count
-
--- entries with rising places, the first at least, all below the table's end
-abbrev pub AreEntries : ℕ → ℕ → List CountEntry → Type 0
-AreEntries end least [] = Unit {0}
-AreEntries end least (e ∷ es) = IsEntry end least e × AreEntries end (e.place + 1) es
 
 -- a file of the form, for a program of so many words
 pub record IsFile (program_len : ℕ) (v : FileValue) : Type 0 where

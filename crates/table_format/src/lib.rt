@@ -17,6 +17,7 @@ use std::alloc::{AllocError, AllocFailed};
 use thiserror::Error;
 use vm_field::Fe;
 use vm_host::HostError;
+pub use vm_trace::CountEntry;
 pub use writer::spelling;
 
 /// Where a run starts and ends. Each number is below the field's modulus.
@@ -26,13 +27,6 @@ pub struct Connector {
     pub pc_end: u32,
     /// The time behind the last step.
     pub end_time: u32,
-}
-
-/// How often the run uses the row at a place of the program. Places count from 0 in the order of the rows.
-#[derive(Clone, Copy, Debug, PartialEq, Eq)]
-pub struct CountEntry {
-    pub place: u32,
-    pub count: u32,
 }
 
 /// What a file says, in the order of its bytes. A value need not be of the form: `read_file` gives only such as are.

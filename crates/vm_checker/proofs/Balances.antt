@@ -3,7 +3,9 @@ use Rattle.std.proofs.Common.{◌≡◌, ℕ, ◌<◌, ◌≤◌, Bool, true, fa
 use Rattle.std.specs.Prelude.{flat_map, Option, Some, None, is_some, not, IsTrue, IsNone, ◌↔◌}
 use Rattle.std.specs.List.{AllByRecursion}
 use Rattle.std.proofs.lemmas.Bool.Decides.{nat_tests}
+use Rattle.std.specs.Option.{option_map}
 use Rattle.vm_isa.specs.declared.instr.VmInstr.{VmInstr}
+use Rattle.vm_isa.specs.Instr.{numbers_of}
 use Rattle.air_core.specs.declared.event.Event.{Event}
 use Rattle.air_core.specs.declared.event.Side.{Side}
 use Rattle.air_core.specs.declared.event.Side.TheVariants.{Send, Receive}
@@ -13,22 +15,22 @@ use Rattle.air_core.proofs.BalanceLemmas.{total-cons, there_of_test}
 use Rattle.exec_path.specs.PathEvents.{connector_events}
 use Rattle.air_core.proofs.ElementLemmas.{all_flat_map, all_from_members}
 use Rattle.air_core.specs.ListLemmas.{all_append}
-use Rattle.table_format.specs.declared.CountEntry.{CountEntry}
+use Rattle.vm_trace.specs.declared.count.CountEntry.{CountEntry}
 use Rattle.table_format.specs.File.{FileValue}
-use Rattle.acceptance.specs.Events.{received_row}
-use Rattle.vm_checker.specs.Accepts.{is_path_bus, IsPathTable, start_of, end_of, entry_events, file_events}
+use Rattle.acceptance.specs.Events.{received_row, entry_events}
+use Rattle.vm_checker.specs.Accepts.{is_path_bus, IsPathTable, start_of, end_of, file_events}
 
-entry_on_path : (count : ℕ) (found : Option VmInstr) → AllByRecursion (λ e. e.bus < 2) (received_row count found)
+entry_on_path : (count : ℕ) (found : Option VmInstr) → AllByRecursion (λ e. e.bus < 2) (received_row 1 count (option_map numbers_of found))
 entry_on_path count None = tt
 entry_on_path count (Some row) = (omega arith, tt)
 
 on_path : (sheet : Sheet) (program : List VmInstr) (v : FileValue) → IsPathTable sheet → AllByRecursion (λ e. e.bus < 2) (file_events sheet program v)
 on_path sheet program v table =
-    all_append (λ e. e.bus < 2) (connector_events (start_of v.connector) (end_of v.connector)) (flat_map (row_events sheet) v.rows ++ flat_map (entry_events program) v.entries)
+    all_append (λ e. e.bus < 2) (connector_events (start_of v.connector) (end_of v.connector)) (flat_map (row_events sheet) v.rows ++ flat_map (entry_events program 1) v.entries)
     (omega arith, (omega arith, tt))
-    (all_append (λ e. e.bus < 2) (flat_map (row_events sheet) v.rows) (flat_map (entry_events program) v.entries)
+    (all_append (λ e. e.bus < 2) (flat_map (row_events sheet) v.rows) (flat_map (entry_events program 1) v.entries)
     (all_flat_map (λ e. e.bus < 2) (row_events sheet) v.rows (all_from_members (λ (row : List ℕ). AllByRecursion (λ e. e.bus < 2) (row_events sheet row)) v.rows (λ row h. table.buses row)))
-    (all_flat_map (λ e. e.bus < 2) (entry_events program) v.entries (all_from_members (λ (e : CountEntry). AllByRecursion (λ e. e.bus < 2) (entry_events program e)) v.entries (λ e h. entry_on_path e.count (slice_get program e.place)))))
+    (all_flat_map (λ e. e.bus < 2) (entry_events program 1) v.entries (all_from_members (λ (e : CountEntry). AllByRecursion (λ e. e.bus < 2) (entry_events program 1 e)) v.entries (λ e h. entry_on_path e.count (slice_get program e.place)))))
 
 -- nothing is on another bus
 nothing_there : (side : Side) (bus : ℕ) (tuple : List ℕ) (e : Event) (b : Bool) → is_at side bus tuple e ≡ b → e.bus < 2 → 2 ≤ bus → amount_at side bus tuple e ≡ 0
@@ -55,10 +57,10 @@ pub on_two : (events : List Event) → Balanced events → BalancedOn is_path_bu
 on_two events balanced = record { even = λ bus tuple h. balanced.even bus tuple }
 
 -- an entry is one event at most
-pub entry_few : (program : List VmInstr) (e : CountEntry) → length (entry_events program e) ≤ 1
+pub entry_few : (program : List VmInstr) (e : CountEntry) → length (entry_events program 1 e) ≤ 1
 entry_few program e = few (slice_get program e.place)
   where
-    few : (found : Option VmInstr) → length (received_row e.count found) ≤ 1
+    few : (found : Option VmInstr) → length (received_row 1 e.count (option_map numbers_of found)) ≤ 1
     few None = omega arith
     few (Some row) = omega arith
 

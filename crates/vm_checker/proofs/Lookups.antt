@@ -5,6 +5,7 @@ use Rattle.std.proofs.lemmas.Bool.{ne_eqb}
 use Rattle.std.proofs.lemmas.List.Sorted.{IsPermutation-refl}
 use Rattle.std.specs.List.{AllByRecursion}
 use Rattle.std.proofs.lemmas.List.Elements.{All-contains, All-from_recursion}
+use Rattle.std.specs.Option.{option_map}
 use Rattle.vm_isa.specs.declared.instr.VmInstr.{VmInstr}
 use Rattle.vm_isa.specs.Instr.{InRange, numbers_of}
 use Rattle.air_core.specs.declared.event.Event.{Event}
@@ -21,11 +22,11 @@ use Rattle.air_core.proofs.ElementLemmas.{all_flat_map, all_from_members, all_at
 use Rattle.air_core.specs.Totals.{SameTotals}
 use Rattle.exec_path.specs.PathEvents.{connector_events}
 use Rattle.air_core.proofs.Totals.{SameTotals-listed}
-use Rattle.table_format.specs.declared.CountEntry.{CountEntry}
+use Rattle.vm_trace.specs.declared.count.CountEntry.{CountEntry}
 use Rattle.table_format.specs.File.{FileValue}
-use Rattle.acceptance.specs.Events.{received_row}
+use Rattle.acceptance.specs.Events.{received_row, entry_events}
 use Rattle.acceptance.proofs.Lookups.{contains_at, member_counts}
-use Rattle.vm_checker.specs.Accepts.{is_path_bus, IsPathTable, start_of, end_of, entry_events, file_events}
+use Rattle.vm_checker.specs.Accepts.{is_path_bus, IsPathTable, start_of, end_of, file_events}
 
 -- the numbers of a row of the program
 pub record ProgramTuple (program : List VmInstr) (tuple : List ℕ) : Type 0 where
@@ -37,14 +38,14 @@ pub record ProgramTuple (program : List VmInstr) (tuple : List ℕ) : Type 0 whe
 abbrev Received : List VmInstr → Event → Type 0
 Received program e = e.bus ≡ 1 → e.side ≡ Receive → ProgramTuple program e.tuple
 
-received_at : (program : List VmInstr) (place count : ℕ) (found : Option VmInstr) → slice_get program place ≡ found → AllByRecursion (Received program) (received_row count found)
+received_at : (program : List VmInstr) (place count : ℕ) (found : Option VmInstr) → slice_get program place ≡ found → AllByRecursion (Received program) (received_row 1 count (option_map numbers_of found))
 received_at program place count None h = tt
 received_at program place count (Some row) h = (λ bus side. record { row = row; stands = contains_at program place row h; is = refl }, tt)
 
-entries_received : (program : List VmInstr) (entries : List CountEntry) → AllByRecursion (Received program) (flat_map (entry_events program) entries)
+entries_received : (program : List VmInstr) (entries : List CountEntry) → AllByRecursion (Received program) (flat_map (entry_events program 1) entries)
 entries_received program entries =
-    all_flat_map (Received program) (entry_events program) entries
-    (all_from_members (λ (e : CountEntry). AllByRecursion (Received program) (entry_events program e)) entries
+    all_flat_map (Received program) (entry_events program 1) entries
+    (all_from_members (λ (e : CountEntry). AllByRecursion (Received program) (entry_events program 1 e)) entries
     (λ e h. received_at program e.place e.count (slice_get program e.place) refl))
 
 -- a table only sends there
@@ -59,9 +60,9 @@ rows_received sheet program rows buses =
 
 all_received : (sheet : Sheet) (program : List VmInstr) (v : FileValue) → Buses sheet → AllByRecursion (Received program) (file_events sheet program v)
 all_received sheet program v buses =
-    all_append (Received program) (connector_events (start_of v.connector) (end_of v.connector)) (flat_map (row_events sheet) v.rows ++ flat_map (entry_events program) v.entries)
+    all_append (Received program) (connector_events (start_of v.connector) (end_of v.connector)) (flat_map (row_events sheet) v.rows ++ flat_map (entry_events program 1) v.entries)
     (λ bus side. absurd (omega (arith, bus)), (λ bus side. absurd (omega (arith, bus)), tt))
-    (all_append (Received program) (flat_map (row_events sheet) v.rows) (flat_map (entry_events program) v.entries) (rows_received sheet program v.rows buses) (entries_received program v.entries))
+    (all_append (Received program) (flat_map (row_events sheet) v.rows) (flat_map (entry_events program 1) v.entries) (rows_received sheet program v.rows buses) (entries_received program v.entries))
 
 -- what is sent on the program bus is received there
 sent_tuple : (program : List VmInstr) (events : List Event) → AllByRecursion (Received program) events → BalancedOn is_path_bus events → (e : Event) → Member e events → 0 < e.count → e.bus ≡ 1 → e.side ≡ Send → ProgramTuple program e.tuple
@@ -85,8 +86,8 @@ said_counts sheet row =
 module _ (sheet : Sheet) (program : List VmInstr) (v : FileValue) (buses : Buses sheet) (table : IsPathTable sheet) (balanced : BalancedOn is_path_bus (file_events sheet program v)) (row : List ℕ) (stands : Member row v.rows) where
   in_file : (e : Event) → Member e (row_events sheet row) → Member e (file_events sheet program v)
   in_file e h =
-      member_right e (connector_events (start_of v.connector) (end_of v.connector)) (flat_map (row_events sheet) v.rows ++ flat_map (entry_events program) v.entries)
-      (member_left e (flat_map (row_events sheet) v.rows) (flat_map (entry_events program) v.entries) (member_piece (row_events sheet) row e v.rows stands h))
+      member_right e (connector_events (start_of v.connector) (end_of v.connector)) (flat_map (row_events sheet) v.rows ++ flat_map (entry_events program 1) v.entries)
+      (member_left e (flat_map (row_events sheet) v.rows) (flat_map (entry_events program 1) v.entries) (member_piece (row_events sheet) row e v.rows stands h))
 
   -- its program tuples are rows of the program
   pub row_tuple : (e : Event) → Member e (row_events sheet row) → e.bus ≡ 1 → ProgramTuple program e.tuple
@@ -112,18 +113,18 @@ module _ (sheet : Sheet) (program : List VmInstr) (v : FileValue) (buses : Buses
 
 -- ---- the entries
 
-nowhere_at : (bus : ℕ) (count : ℕ) (found : Option VmInstr) → bus ≢ 1 → on_bus bus (received_row count found) ≡ []
+nowhere_at : (bus : ℕ) (count : ℕ) (found : Option VmInstr) → bus ≢ 1 → on_bus bus (received_row 1 count (option_map numbers_of found)) ≡ []
 nowhere_at bus count None other = refl
 nowhere_at bus count (Some row) other = rw (ne_eqb 1 bus (λ same. other (sym same))) refl
 
-entries_on_bus : (program : List VmInstr) (entries : List CountEntry) → on_bus 0 (flat_map (entry_events program) entries) ≡ []
+entries_on_bus : (program : List VmInstr) (entries : List CountEntry) → on_bus 0 (flat_map (entry_events program 1) entries) ≡ []
 entries_on_bus program [] = refl
 entries_on_bus program (e ∷ entries) =
-    on_bus-append 0 (entry_events program e) (flat_map (entry_events program) entries)
-    ∙ ap (λ (xs : List Event). xs ++ on_bus 0 (flat_map (entry_events program) entries)) (nowhere_at 0 e.count (slice_get program e.place) (λ h. omega (arith, h)))
+    on_bus-append 0 (entry_events program 1 e) (flat_map (entry_events program 1) entries)
+    ∙ ap (λ (xs : List Event). xs ++ on_bus 0 (flat_map (entry_events program 1) entries)) (nowhere_at 0 e.count (slice_get program e.place) (λ h. omega (arith, h)))
     ∙ entries_on_bus program entries
 
 -- they say nothing on the execution bus
-pub entries_elsewhere : (program : List VmInstr) (entries : List CountEntry) → SameTotals 0 (flat_map (entry_events program) entries) []
+pub entries_elsewhere : (program : List VmInstr) (entries : List CountEntry) → SameTotals 0 (flat_map (entry_events program 1) entries) []
 entries_elsewhere program entries =
-    SameTotals-listed 0 (flat_map (entry_events program) entries) [] (subst (IsPermutation []) (sym (entries_on_bus program entries)) (IsPermutation-refl []))
+    SameTotals-listed 0 (flat_map (entry_events program 1) entries) [] (subst (IsPermutation []) (sym (entries_on_bus program entries)) (IsPermutation-refl []))

@@ -26,7 +26,8 @@ use Rattle.vm_transpile.proofs.Ranges.{rows_in_range}
 use Rattle.vm_transpile.proofs.RunsAlike.{runs_end_alike}
 use Rattle.elf_image.specs.Image.{HasImage}
 use Rattle.acceptance.proofs.Steps.{goes_first}
-use Rattle.vm_checker.specs.Accepts.{Accepts, IsPathTable, is_path_bus, start_of, end_of, entry_events, file_events, valid_rows}
+use Rattle.acceptance.specs.Events.{entry_events}
+use Rattle.vm_checker.specs.Accepts.{Accepts, IsPathTable, is_path_bus, start_of, end_of, file_events, valid_rows}
 use Rattle.vm_checker.proofs.Lookups.{entries_elsewhere}
 use Rattle.vm_checker.specs.Laws.{AcceptedFilesAreRuns}
 use Rattle.vm_checker.proofs.Rows.{IsPathStep, OneRow, one_row, AllRows, all_rows}
@@ -65,11 +66,11 @@ said_on_path : (sheet : Sheet) (program : List VmInstr) (v : FileValue) (timed :
     → SameTotals 0 (file_events sheet program v) (execution_events (start_of v.connector) (end_of v.connector) timed)
 said_on_path sheet program v timed same =
     let connector = connector_events (start_of v.connector) (end_of v.connector) in
-    let rest : SameTotals 0 (flat_map (row_events sheet) v.rows ++ flat_map (entry_events program) v.entries) (flat_map path_events timed ++ []) =
-    SameTotals-append 0 (flat_map (row_events sheet) v.rows) (flat_map (entry_events program) v.entries) (flat_map path_events timed) [] same (entries_elsewhere program v.entries) in
-    SameTotals-append 0 connector (flat_map (row_events sheet) v.rows ++ flat_map (entry_events program) v.entries) connector (flat_map path_events timed)
+    let rest : SameTotals 0 (flat_map (row_events sheet) v.rows ++ flat_map (entry_events program 1) v.entries) (flat_map path_events timed ++ []) =
+    SameTotals-append 0 (flat_map (row_events sheet) v.rows) (flat_map (entry_events program 1) v.entries) (flat_map path_events timed) [] same (entries_elsewhere program v.entries) in
+    SameTotals-append 0 connector (flat_map (row_events sheet) v.rows ++ flat_map (entry_events program 1) v.entries) connector (flat_map path_events timed)
     (record { sums = λ side tuple. refl })
-    (subst (SameTotals 0 (flat_map (row_events sheet) v.rows ++ flat_map (entry_events program) v.entries)) (append-nil (flat_map path_events timed)) rest)
+    (subst (SameTotals 0 (flat_map (row_events sheet) v.rows ++ flat_map (entry_events program 1) v.entries)) (append-nil (flat_map path_events timed)) rest)
 
 on_execution : (bus : ℕ) → is_bus 0 bus ≡ true → is_path_bus bus ≡ true
 on_execution bus h = rw (eqb-true bus 0 h) refl

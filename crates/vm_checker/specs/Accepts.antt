@@ -1,16 +1,15 @@
 -- When a file's claim is accepted over a program.
-use Rattle.std.specs.Prelude.{◌≡◌, ℕ, ◌*◌, ◌^◌, ◌<◌, Bool, true, nat_eq, nat_lt, List, ◌++◌, flat_map, length, count_by, slice_get}
+use Rattle.std.specs.Prelude.{◌≡◌, ℕ, ◌*◌, ◌^◌, ◌<◌, Bool, true, nat_eq, nat_lt, List, ◌++◌, flat_map, length, count_by}
 use Rattle.std.specs.List.{AllByRecursion, list_any}
 use Rattle.vm_isa.specs.declared.instr.VmInstr.{VmInstr}
 use Rattle.vm_isa.specs.Blocks.{Terminates}
 use Rattle.air_core.specs.declared.event.Event.{Event}
 use Rattle.air_core.specs.Sheet.{Sheet, RowHolds, row_events}
 use Rattle.air_core.specs.Balance.{BalancedOn}
-use Rattle.acceptance.specs.Events.{received_row}
+use Rattle.acceptance.specs.Events.{entry_events}
 use Rattle.exec_path.specs.Path.{Point}
 use Rattle.exec_path.specs.PathEvents.{connector_events}
 use Rattle.table_format.specs.declared.Connector.{Connector}
-use Rattle.table_format.specs.declared.CountEntry.{CountEntry}
 use Rattle.table_format.specs.File.{FileValue}
 
 -- the execution bus and the program bus
@@ -33,14 +32,10 @@ start_of c = record { pc = c.pc_start; time = 1 }
 abbrev pub end_of : Connector → Point
 end_of c = record { pc = c.pc_end; time = c.end_time }
 
--- a row of the program is received as often as its entry says
-abbrev pub entry_events : List VmInstr → CountEntry → List Event
-entry_events program e = received_row e.count (slice_get program e.place)
-
 -- all that a file says: its connector, its rows and its entries
 abbrev pub file_events : Sheet → List VmInstr → FileValue → List Event
 file_events sheet program v =
-    connector_events (start_of v.connector) (end_of v.connector) ++ (flat_map (row_events sheet) v.rows ++ flat_map (entry_events program) v.entries)
+    connector_events (start_of v.connector) (end_of v.connector) ++ (flat_map (row_events sheet) v.rows ++ flat_map (entry_events program 1) v.entries)
 
 -- ---- what is accepted
 

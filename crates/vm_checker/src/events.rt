@@ -3,8 +3,8 @@ ghost use Rattle.std.specs.Prelude.{◌≡◌, ◌+◌, ◌*◌, ◌≤◌, flat
 ghost use Rattle.air_core.specs.Sheet.{row_events};
 ghost use Rattle.air_core.specs.Sink.{Handed};
 ghost use Rattle.exec_path.specs.PathEvents.{connector_events};
-ghost use Rattle.acceptance.specs.Events.{received_row};
-ghost use Rattle.vm_checker.specs.Accepts.{start_of, end_of, entry_events};
+ghost use Rattle.acceptance.specs.Events.{received_row, entry_events};
+ghost use Rattle.vm_checker.specs.Accepts.{start_of, end_of};
 
 use air_core::{Chip, Event, EventSink, OutOfMemory, Side, Tuple};
 use table_format::{Connector, CountEntry};
@@ -58,7 +58,7 @@ pub(crate) fn hand_entries<S: EventSink>(
     sink: &mut S,
 ) -> Result<(), OutOfMemory>
     requires { length entries.now ≤ S.room sink.old }
-    ensures { OnOk result (Handed S.holds S.room sink.old sink.new (flat_map (entry_events program.now) entries.now)) }
+    ensures { OnOk result (Handed S.holds S.room sink.old sink.new (flat_map (entry_events program.now 1) entries.now)) }
 {
     for entry in entries {
         hand_entry(program, entry, sink)?;
@@ -73,7 +73,7 @@ fn hand_entry<S: EventSink>(
     sink: &mut S,
 ) -> Result<(), OutOfMemory>
     requires { 1 ≤ S.room sink.old }
-    ensures { OnOk result (Handed S.holds S.room sink.old sink.new (entry_events program.now entry.now)) }
+    ensures { OnOk result (Handed S.holds S.room sink.old sink.new (entry_events program.now 1 entry.now)) }
 {
     match program.at(entry.place) {
         Some(row) => sink.take(&Event {

@@ -12,7 +12,7 @@ use std::alloc::Global;
 use std::test::Fail;
 
 /// The bytes at a label.
-fn bytes_at(leaves: &[(u32, u8)], label: u32) -> [u8; 64] {
+fn labelled_bytes(leaves: &[(u32, u8)], label: u32) -> [u8; 64] {
     for (kept, first) in leaves {
         if *kept == label {
             return page(*first);
@@ -47,7 +47,7 @@ fn plain_digest(height: u32, leaves: &[(u32, u8)], level: u32, index: u32) -> Di
         return zero_digest(level);
     }
     if level == 0 {
-        return Sha256::digest(bytes_at(leaves, index).as_slice());
+        return Sha256::digest(labelled_bytes(leaves, index).as_slice());
     }
     let first = index.wrapping_mul(2);
     plain_pair(
@@ -93,7 +93,7 @@ fn touched(label: u32) -> Touched
 {
     Touched {
         label,
-        old: bytes_at(&LEAVES, label),
+        old: labelled_bytes(&LEAVES, label),
         new: page(100),
         times: [0; 16],
     }

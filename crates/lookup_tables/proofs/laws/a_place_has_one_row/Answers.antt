@@ -1,5 +1,5 @@
 use Rattle.lookup_tables.proofs.PlaceLemmas.{some_row, one_row, rows_below, row_of_place}
-use Rattle.lookup_tables.proofs.RowsAt.{row_stands}
+use Rattle.lookup_tables.proofs.RowsAt.{row_at-is}
 use Rattle.lookup_tables.proofs.laws.a_place_has_one_row.Goals as goal
 
 pub returns-clause-some : goal.returns-clause-some
@@ -15,4 +15,4 @@ pub returns-clause-row : goal.returns-clause-row
 returns-clause-row c = row_of_place
 
 pub returns-clause-function : goal.returns-clause-function
-returns-clause-function c = row_stands
+returns-clause-function c = row_at-is

@@ -1,7 +1,7 @@
--- What a file of tables says, as values. The bytes that spell it are another matter.
-use Rattle.std.specs.Prelude.{ℕ, Bool, List}
-use Rattle.air_core.specs.declared.count.CountEntry.{CountEntry}
-use Rattle.offline_memory.specs.declared.page.Touched.{Touched}
+-- What a file of tables says, as a value. The bytes that spell it are another matter.
+use Rattle.std.specs.Prelude.{ℕ, Bool, List, [], map}
+use Rattle.vm_trace.specs.declared.count.CountEntry.{CountEntry}
+use Rattle.vm_trace.specs.declared.page.Touched.{Touched}
 
 -- a part of the run: where it begins and ends, its rows, its counts, and the pages that it touches
 pub record Segment : Type 0 where
@@ -14,6 +14,8 @@ pub record Segment : Type 0 where
   -- the root of the tree of pages before and after it
   pub start_root : List ℕ
   pub end_root : List ℕ
+  -- the height of each table by its code: 0 for no rows, and k for 2^(k-1)
+  pub height_codes : List ℕ
   -- the rows of each table
   pub tables : List (List (List ℕ))
   -- how often rows of the program, of the xor table, the range table and the table of SHA's constants are used
@@ -25,8 +27,9 @@ pub record Segment : Type 0 where
   pub pages : List Touched
   pub siblings : List (List ℕ)
 
--- segments, and the claim: the exit code, the public bytes, and the path from them to the last root
+-- the version of its form; segments; and the claim: the exit code, the public bytes, and the path from them to the last root
 pub record File : Type 0 where
+  pub version : ℕ
   pub segments : List Segment
   pub code : ℕ
   pub public_bytes : List ℕ

@@ -1,5 +1,17 @@
 //! Pages of memory, and the digests that stand for parts of it.
 
+/// How many pages a space has: the labels of a space are this many, from its number times it on.
+pub const SPACE_PAGES: u32 = 1 << 23;
+
+/// The label of the first page of registers. The second page is the one behind it.
+pub const REGISTER_LABEL: u32 = 8_388_608;
+
+/// The label of the first page of memory.
+pub const MEMORY_LABEL: u32 = 16_777_216;
+
+/// The label of the page of public bytes. It is the one behind the last page of memory.
+pub const PUBLIC_LABEL: u32 = 25_165_824;
+
 /// A SHA-256 digest.
 pub type Digest = [u8; 32];
 

@@ -1,8 +1,8 @@
 -- What a segment is made of: the rows of each table, and the entries of each list of counts.
 use Rattle.std.specs.Prelude.{ℕ, List, [], ◌∷◌, ◌++◌, map, set, slice_index_or}
-use Rattle.air_core.specs.declared.count.CountEntry.{CountEntry}
-use Rattle.air_core.specs.declared.count.CountList.{CountList}
-use Rattle.air_core.specs.declared.count.CountList.TheVariants.{Program, Xor, Range, ShaConst}
+use Rattle.vm_trace.specs.declared.count.CountEntry.{CountEntry}
+use Rattle.vm_trace.specs.declared.count.CountList.{CountList}
+use Rattle.vm_trace.specs.declared.count.CountList.TheVariants.{Program, Xor, Range, ShaConst}
 
 -- a table: its columns, and its rows in order
 pub record TableRows : Type 0 where

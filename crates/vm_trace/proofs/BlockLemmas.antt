@@ -4,8 +4,8 @@ use Rattle.std.specs.Prelude.{nat_lt}
 use Rattle.std.proofs.lemmas.Bool.{eq-eqb, and_from}
 use Rattle.std.proofs.lemmas.Bool.Decides.{nat_tests}
 use Rattle.vm_isa.specs.Blocks.{is_block, space_size}
-use Rattle.offline_memory.specs.Pages.{page_space, block_pointer}
-use Rattle.offline_memory.specs.BlockMemory.{IsPage}
+use Rattle.vm_trace.specs.Pages.{page_space, block_pointer}
+use Rattle.vm_trace.specs.PageBlocks.{IsPage}
 
 pub block_inside : (label block : ℕ) → IsPage label → block < 16 → is_block (page_space label) (block_pointer label block) ≡ true
 block_inside label block is small =

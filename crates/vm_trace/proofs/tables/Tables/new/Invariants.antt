@@ -1,6 +1,6 @@
 use Rattle.std.proofs.Common.{◌≡◌, take}
-use Rattle.air_core.specs.Contents.{empty}
-use Rattle.air_core.proofs.tables.Tables.new.Given as goal
+use Rattle.vm_trace.specs.Contents.{empty}
+use Rattle.vm_trace.proofs.tables.Tables.new.Given as goal
 
 -- a table for each width so far
 abbrev pub invariant-loop-width : goal.invariant-loop-width

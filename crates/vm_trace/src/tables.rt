@@ -1,7 +1,7 @@
 //! The rows and the counts that a segment is made of.
 
 ghost use Rattle.std.specs.Prelude.{◌≡◌, ◌^◌, ◌<◌, ◌≤◌, Some, None, length, slice_get, OnOk, OnErr, IfOk, MatchOption};
-ghost use Rattle.air_core.specs.Contents.{counts_of, empty, table_at, with_count, with_row};
+ghost use Rattle.vm_trace.specs.Contents.{counts_of, empty, table_at, with_count, with_row};
 
 use crate::{CountEntry, CountList, OutOfMemory};
 use std::alloc::Global;
@@ -17,7 +17,7 @@ struct Table {
 
 impl Model for Table {
     ghost use Rattle.std.specs.Prelude.{◌≤◌, ◌^◌, length, map};
-    ghost use Rattle.air_core.specs.Contents.{TableRows};
+    ghost use Rattle.vm_trace.specs.Contents.{TableRows};
 
     ghost Value = { TableRows };
 
@@ -39,7 +39,7 @@ pub struct Tables {
 
 impl Model for Tables {
     ghost use Rattle.std.specs.Prelude.{◌<◌, ◌^◌, length};
-    ghost use Rattle.air_core.specs.Contents.{Contents};
+    ghost use Rattle.vm_trace.specs.Contents.{Contents};
 
     ghost Value = { Contents };
 

@@ -1,0 +1,2 @@
+pub mod TwoSums
+pub mod Laws
