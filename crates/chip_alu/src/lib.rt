@@ -4,7 +4,7 @@
 ghost use Rattle.std.specs.Prelude.{◌≡◌, ◌≤◌, ◌<◌, ◌^◌, length};
 ghost use Rattle.air_core.specs.First.{first_from};
 ghost use Rattle.air_core.specs.Ring.{field};
-ghost use Rattle.chip_alu.specs.Alu.{sums_of, operation, result_of};
+ghost use Rattle.chip_alu.specs.Alu.{alu_sums, operation, result_of};
 
 pub mod laws;
 #[cfg(test)]
@@ -52,7 +52,7 @@ fn result_of(own: &[Fe]) -> Limbs
 /// The words add up to the result under one gate, and the result and the second word to the first under the other.
 fn sums_broken(from: u32, add: Fe, sub: Fe, a: Limbs, b: Limbs, c: Limbs) -> Option<u32>
     requires { from < 2 ^ 17 }
-    ensures { result ≡ first_from from (sums_of field add sub a b c) }
+    ensures { result ≡ first_from from (alu_sums field add sub a b c) }
 {
     let (new, left, right) = (a.array(), b.array(), c.array());
     let sums = gadget_limbs::first_broken(from, add, &left, &right, &new);

@@ -3,8 +3,9 @@
 ghost use Rattle.std.specs.Prelude.{◌≡◌};
 
 use super::*;
-use air_core::{Both, Event, Extension, NoChips, Nop, OutOfMemory, Reserved, Side, Single, Tuple};
+use air_core::{Both, Event, Extension, NoChips, OutOfMemory, Reserved, Side, Single, Tuple};
 use std::alloc::Global;
+use gadget_time::Nop;
 use std::test::Fail;
 use vm_field::Fe;
 

@@ -10,12 +10,7 @@ use Rattle.vm_field.specs.declared.limbs.Limbs.{Limbs}
 use Rattle.vm_field.specs.Limbs.{list_of, limbs_at, LimbsBelow}
 use Rattle.gadget_limbs.specs.Number.{number_of}
 
--- columns of a row of elements are elements
-pub limbs_at_below : (row : List ℕ) (at : ℕ) → AllBelow row → LimbsBelow (limbs_at row at)
-unfolding limbs_at
-limbs_at_below row at h = record { x0 = below_at row at h; x1 = below_at row _ h; x2 = below_at row _ h; x3 = below_at row _ h }
-
--- and so are bytes
+-- bytes are elements
 pub bytes_below : (xs : List ℕ) → IsBytes xs → AllBelow xs
 bytes_below xs h = all_weaker (λ x. x < 256) (λ x. x < 2013265921) (λ x b. omega arith) xs h
 

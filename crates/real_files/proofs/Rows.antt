@@ -5,12 +5,13 @@ use Rattle.air_core.specs.First.{bit, gated_difference}
 use Rattle.air_core.specs.Flags.{flag_constraints}
 use Rattle.air_core.specs.Path.{path_lines}
 use Rattle.air_core.specs.Sheet.{RowHolds, row_events, sent, received}
-use Rattle.vm_field.specs.Limbs.{limbs_at, list_of}
+use Rattle.vm_field.specs.Limbs.{list_of}
 use Rattle.gadget_limbs.specs.Lookup.{choose, mixed, looked_up}
 use Rattle.gadget_limbs.specs.Sum.{sum_constraints, carry_out, gated_bit}
 use Rattle.gadget_time.specs.Told.{time_constraint, touch_constraint, touch_lines}
-use Rattle.adapter_regs.specs.Regs.{regs_at, gap_at, immediate_constraints, first_touch, second_touch, third_touch, regs_numbers}
-use Rattle.chip_alu.specs.Alu.{alu_sheet, alu_row, alu_flags, alu_valid, alu_op, alu_operation, alu_lines, alu_constraints, lookup_lines}
+use Rattle.gadget_time.specs.Form.{columns_by, form_constraints}
+use Rattle.adapter_regs.specs.Regs.{regs_of, immediate_constraints, first_touch, second_touch, third_touch, regs_numbers}
+use Rattle.chip_alu.specs.Alu.{alu_sheet}
 use Rattle.real_files.specs.TwoSums.{first_row, second_row}
 use Rattle.real_files.proofs.Tested.{all_zero, each_zero}
 
@@ -43,17 +44,17 @@ second_lines =
     ∷ (access 5 7 0 7 1 0 ++ (access 5 7 1 7 2 0 ++ (access 6 0 0 14 3 2 ++ limbs 14)))
 
 pub first_says : row_events (alu_sheet 8) first_row ≡ first_lines
-unfolding alu_lines alu_row alu_flags alu_valid alu_op alu_operation lookup_lines path_lines touch_lines first_touch second_touch third_touch regs_numbers regs_at gap_at limbs_at list_of choose mixed looked_up
+unfolding columns_by regs_of path_lines touch_lines first_touch second_touch third_touch regs_numbers list_of choose mixed looked_up
 first_says = refl
 
 pub second_says : row_events (alu_sheet 8) second_row ≡ second_lines
-unfolding alu_lines alu_row alu_flags alu_valid alu_op alu_operation lookup_lines path_lines touch_lines first_touch second_touch third_touch regs_numbers regs_at gap_at limbs_at list_of choose mixed looked_up
+unfolding columns_by regs_of path_lines touch_lines first_touch second_touch third_touch regs_numbers list_of choose mixed looked_up
 second_says = refl
 
 pub first_holds : RowHolds (alu_sheet 8) first_row
-unfolding alu_constraints alu_row alu_flags alu_valid flag_constraints bit immediate_constraints gated_difference sum_constraints carry_out gated_bit touch_constraint time_constraint first_touch second_touch third_touch regs_at gap_at limbs_at list_of each_zero
+unfolding columns_by form_constraints regs_of flag_constraints bit immediate_constraints gated_difference sum_constraints carry_out gated_bit touch_constraint time_constraint first_touch second_touch third_touch list_of each_zero
 first_holds = all_zero ((alu_sheet 8).constraints first_row) refl
 
 pub second_holds : RowHolds (alu_sheet 8) second_row
-unfolding alu_constraints alu_row alu_flags alu_valid flag_constraints bit immediate_constraints gated_difference sum_constraints carry_out gated_bit touch_constraint time_constraint first_touch second_touch third_touch regs_at gap_at limbs_at list_of each_zero
+unfolding columns_by form_constraints regs_of flag_constraints bit immediate_constraints gated_difference sum_constraints carry_out gated_bit touch_constraint time_constraint first_touch second_touch third_touch list_of each_zero
 second_holds = all_zero ((alu_sheet 8).constraints second_row) refl

@@ -25,7 +25,7 @@ use Rattle.air_core.specs.lemmas.Cells.{length-cells, cells_back, cells_of_zeros
 use Rattle.air_core.specs.lemmas.OneHot.{of_owned, zeros_hold, sum_one, length-one_hot}
 use Rattle.gadget_time.specs.Told.{touch_constraint, time_constraint, MadeByAll}
 use Rattle.gadget_time.specs.Form.{Columns, parts_of, valid_of, owns_of, filled_columns, no_columns}
-use Rattle.gadget_time.specs.FormLaws.{FormLaws, FormBounds, IsOther, IsAt, Holds, TellsDone, NoHints}
+use Rattle.gadget_time.specs.FormLaws.{FormLaws, FormBounds, IsOther, IsAt, FormHolds, TellsDone, NoHints}
 use Rattle.adapter_regs.specs.declared.regs.Regs.{Regs}
 use Rattle.adapter_regs.specs.Regs.{regs_of, words_from, limbs_of_zero, regs_touches, first_touch, second_touch, third_touch, regs_numbers, immediate_constraints, regs_filled, new_filled, regs_cells, time_cells}
 use Rattle.adapter_regs.specs.Core.{Core, CoreLaws, Operands, operands, operands_of, registers, regs_form, IsLookup, IsCoreAt, IsResult, IsResultOf, IsPlaced, IsGoodCore, no_operands, place_filled, own_filled, ACoreIsAForm}

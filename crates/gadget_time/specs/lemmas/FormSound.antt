@@ -16,7 +16,7 @@ use Rattle.air_core.specs.lemmas.Cells.{length-cells, cells_below}
 use Rattle.gadget_time.specs.Told.{told_lines, touch_constraint}
 use Rattle.gadget_time.specs.Laws.{OffMachine}
 use Rattle.gadget_time.specs.Form.{Form, Columns, columns, columns_by, valid_of, op_of, told_by, form_constraints, form_sheet, owns_of}
-use Rattle.gadget_time.specs.FormLaws.{FormLaws, IsOther, IsAt, Holds, Tells, InstructionAt, NoHints}
+use Rattle.gadget_time.specs.FormLaws.{FormLaws, IsOther, IsAt, FormHolds, Tells, InstructionAt, NoHints}
 use Rattle.gadget_time.specs.lemmas.ToldLaws.{told_silent, told_step, told_no_hint, good_others, good_program}
 
 record IsParts (f : Form) (c : Columns ℕ) : Type 0 where
@@ -127,7 +127,7 @@ module _ (f : Form) (hi : ℕ) (laws : FormLaws f) where
         inl none ↦ inl none
         | inr s ↦ inr (
           let i = instruction_at c s.place s.at s.valid good in
-          let own : Holds f c = record { zero = p.own; good = good_others hi (told_by f c) good } in
+          let own : FormHolds f c = record { zero = p.own; good = good_others hi (told_by f c) good } in
           let t = laws.tells s.place c s.at own i in
           record {
             instr = i.instr;
@@ -149,7 +149,7 @@ module _ (f : Form) (hi : ℕ) (laws : FormLaws f) where
         inl none ↦ inl none
         | inr s ↦ inr (
           let i = instruction_at c s.place s.at s.valid good in
-          let own : Holds f c = record { zero = p.own; good = good_others hi (told_by f c) good } in
+          let own : FormHolds f c = record { zero = p.own; good = good_others hi (told_by f c) good } in
           let t = laws.tells s.place c s.at own i in
           record {
             instr = i.instr;

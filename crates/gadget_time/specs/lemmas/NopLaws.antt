@@ -10,18 +10,21 @@ use Rattle.vm_isa.specs.Means.{Fillable}
 use Rattle.vm_isa.specs.Opcodes.{NOP}
 use Rattle.vm_isa.proofs.InstrLaws.{numbers_of-nop}
 use Rattle.vm_isa.proofs.MeansLaws.{means_of-nop, nop_goes_on}
+use Rattle.air_core.specs.Laws.{Fits, Buses, Sound}
 use Rattle.air_core.specs.Step.{IsMeaning}
 use Rattle.air_core.specs.lemmas.OneHot.{of_owned}
 use Rattle.gadget_time.specs.Form.{Columns, owns_of}
-use Rattle.gadget_time.specs.FormLaws.{FormLaws, IsAt, Holds, InstructionAt, NoHints, TellsDone}
-use Rattle.gadget_time.specs.Nop.{nop_form}
+use Rattle.gadget_time.specs.FormLaws.{FormLaws, IsAt, FormHolds, InstructionAt, NoHints, TellsDone}
+use Rattle.gadget_time.specs.Nop.{nop_form, nop_sheet}
+use Rattle.gadget_time.specs.lemmas.FormBounds.{form_buses}
+use Rattle.gadget_time.specs.lemmas.FormComplete.{form_table}
 
 -- the instruction of a row is a no-operation at its pc
-record IsNop (pc : ℕ) (instr : VmInstr) : Type 0 where
+record IsNopAt (pc : ℕ) (instr : VmInstr) : Type 0 where
   pc_is : pc ≡ instr.pc
   op_is : instr.op ≡ NOP
 
-is_nop : (pc op : ℕ) (instr : VmInstr) → op ≡ NOP → pc ∷ op ∷ 0 ∷ 0 ∷ 0 ∷ 0 ∷ 0 ∷ 0 ∷ 0 ∷ 0 ∷ 0 ∷ 0 ∷ [] ≡ numbers_of instr → IsNop pc instr
+is_nop : (pc op : ℕ) (instr : VmInstr) → op ≡ NOP → pc ∷ op ∷ 0 ∷ 0 ∷ 0 ∷ 0 ∷ 0 ∷ 0 ∷ 0 ∷ 0 ∷ 0 ∷ 0 ∷ [] ≡ numbers_of instr → IsNopAt pc instr
 unfolding numbers_of
 is_nop pc op instr e are = let at : op ≡ instr.op = cc in record { pc_is = cc; op_is = sym at ∙ e }
 
@@ -77,3 +80,13 @@ nop_laws = record {
   means = λ alone k c at holds i old. means k c at i;
   fills = λ hi done top f own. fills hi done f own;
 }
+
+-- the laws of the table that checks cite
+pub nop_fits : (hi : ℕ) → 8 ≤ hi → hi ≤ 13 → Fits (nop_sheet hi)
+nop_fits hi low high = (form_table nop_form hi nop_laws low high).fits
+
+pub nop_buses : (hi : ℕ) → Buses (nop_sheet hi)
+nop_buses hi = form_buses nop_form hi nop_laws
+
+pub nop_sound : (hi : ℕ) → 8 ≤ hi → hi ≤ 13 → Sound (nop_sheet hi)
+nop_sound hi low high = (form_table nop_form hi nop_laws low high).sound
