@@ -26,6 +26,15 @@ pub type AluAt<const HI: u32> = RegsChip<AluCore, HI>;
 /// The table with times of 24 bits.
 pub type Alu = AluAt<8>;
 
+/// The opcode of each flag.
+const OPCODES: [u16; 5] = [
+    opcode::ADD as u16,
+    opcode::SUB as u16,
+    opcode::XOR as u16,
+    opcode::OR as u16,
+    opcode::AND as u16,
+];
+
 /// The flags by their operations.
 fn operation(flags: &[Fe]) -> OperationFlags
     requires { length flags.now ≡ 5 }
@@ -93,7 +102,7 @@ impl RegsCore for AluCore {
 
     fn opcode(flags: &[Fe]) -> Fe {
         let flags = [flags[0], flags[1], flags[2], flags[3], flags[4]];
-        air_core::opcode(&flags, &[opcode::ADD as u16, opcode::SUB as u16, opcode::XOR as u16, opcode::OR as u16, opcode::AND as u16])
+        air_core::opcode(&flags, &OPCODES)
     }
 
     fn new_word(flags: &[Fe], own: &[Fe], left: Limbs, right: Limbs) -> Limbs {

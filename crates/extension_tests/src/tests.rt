@@ -4,8 +4,8 @@ ghost use Rattle.std.specs.Prelude.{◌≡◌};
 
 use super::*;
 use air_core::{Both, Event, Extension, NoChips, OutOfMemory, Reserved, Side, Single, Tuple};
-use std::alloc::Global;
 use gadget_time::Nop;
+use std::alloc::Global;
 use std::test::Fail;
 use vm_field::Fe;
 

@@ -5,9 +5,9 @@ use Rattle.vm_word.specs.Word.{word_of_limbs, limbs_of}
 use Rattle.vm_word.proofs.WordLemmas.{word_of_limbs-lt, limbs_of-word_of_limbs}
 use Rattle.vm_isa.specs.Words.{IsBytes, IsWord}
 use Rattle.air_core.specs.Sheet.{AllBelow}
-use Rattle.air_core.specs.ListLemmas.{below_at, all_weaker}
+use Rattle.air_core.specs.ListLemmas.{all_weaker}
 use Rattle.vm_field.specs.declared.limbs.Limbs.{Limbs}
-use Rattle.vm_field.specs.Limbs.{list_of, limbs_at, LimbsBelow}
+use Rattle.vm_field.specs.Limbs.{list_of}
 use Rattle.gadget_limbs.specs.Number.{number_of}
 
 -- bytes are elements

@@ -1,5 +1,5 @@
 -- The lookups of a word's limbs say that each limb is right, and bytes by a bitwise function make that function of the words.
-use Rattle.std.proofs.Common.{◌≡◌, ◌≢◌, ℕ, ◌<◌, ◌↔◌, List, [], ◌∷◌, bit_xor, bit_or, bit_and, refl, sym, ap, ◌∙◌, arith}
+use Rattle.std.proofs.Common.{◌≡◌, ◌≢◌, ℕ, ◌<◌, ◌↔◌, [], ◌∷◌, bit_xor, bit_or, bit_and, refl, sym, ap, ◌∙◌, arith}
 use Rattle.std.specs.List.{AllByRecursion}
 use Rattle.std.proofs.lemmas.Nat.{xor_of_8, or_of_8}
 use Rattle.vm_field.specs.Field.{modulus}

@@ -12,7 +12,8 @@ ghost use Rattle.gadget_time.specs.Form.{columns, told_by, form_constraints, own
 
 use crate::TableForm;
 use air_core::{
-    Chip, EventSink, HintWord, OutOfMemory, element, emit_path, first, first_nonzero, flag_sum, flags_broken,
+    Chip, EventSink, HintWord, OutOfMemory, element, emit_path, first, first_nonzero, flag_sum,
+    flags_broken,
 };
 use std::marker::PhantomData;
 use vm_field::Fe;

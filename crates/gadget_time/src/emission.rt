@@ -33,7 +33,12 @@ pub fn emit_touch<S: EventSink>(
     emit_received(bus::MEMORY, count, &taken, sink)?;
     emit_sent(bus::MEMORY, count, &put, sink)?;
     emit_sent(bus::RANGE, count, &[touch.gap.lo, Fe::of_u16(16)], sink)?;
-    emit_sent(bus::RANGE, count, &[touch.gap.hi, Fe::of_u16(hi as u16)], sink)
+    emit_sent(
+        bus::RANGE,
+        count,
+        &[touch.gap.hi, Fe::of_u16(hi as u16)],
+        sink,
+    )
 }
 
 /// The accesses of a row of this time, however many.

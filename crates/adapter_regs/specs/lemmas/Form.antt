@@ -42,9 +42,19 @@ each P Q f xs h = all_weaker P Q f xs h
 
 abbrev no_regs : Regs ℕ
 no_regs = record {
-  pc = 0; time = 0; rd = 0; rs1 = 0; rs2 = 0; use_imm = 0;
-  imm = limbs_of_zero field; left = limbs_of_zero field; right = limbs_of_zero field; old = limbs_of_zero field;
-  first = record { before = 0; lo = 0; hi = 0 }; second = record { before = 0; lo = 0; hi = 0 }; third = record { before = 0; lo = 0; hi = 0 };
+  pc = 0;
+  time = 0;
+  rd = 0;
+  rs1 = 0;
+  rs2 = 0;
+  use_imm = 0;
+  imm = limbs_of_zero field;
+  left = limbs_of_zero field;
+  right = limbs_of_zero field;
+  old = limbs_of_zero field;
+  first = record { before = 0; lo = 0; hi = 0 };
+  second = record { before = 0; lo = 0; hi = 0 };
+  third = record { before = 0; lo = 0; hi = 0 };
 }
 
 zero_regs : (b immediates : Bool) → immediates ≡ b → (own n : ℕ) → regs_of field immediates own 0 0 (replicate n 0) ≡ no_regs
@@ -202,7 +212,7 @@ module _ (core : Core) (laws : CoreLaws core) where
       let good = laws.complete op o (new_filled done) at cols.own.word placed.opcode refl in
       let res : IsResult op o (core.parts.new o) = subst (λ (x : ℕ). IsResult x o (core.parts.new o)) placed.opcode (laws.sound (place_filled core done) o at good.zero good.good) in
       let new : new_filled done ≡ core.parts.new o = limbs_same (new_filled done) (core.parts.new o)
-          (cols.own.word.is ∙ sym (sym (limbs_of-word (list_of (core.parts.new o)) (record { four = length-list_of (core.parts.new o); bytes = res.bytes })) ∙ ap limbs_of res.result_is)) in
+      (cols.own.word.is ∙ sym (sym (limbs_of-word (list_of (core.parts.new o)) (record { four = length-list_of (core.parts.new o); bytes = res.bytes })) ∙ ap limbs_of res.result_is)) in
       record {
         below = placed.below;
         opcode = placed.opcode;

@@ -108,7 +108,6 @@ pointer x y e h = omega arith
 step_on : (x y : ℕ) → x ≡ y → y < 2 ^ 29 → field_add x 4 ≡ word_sum y 4
 step_on x y e h = omega arith
 
-
 cond_zero : (b : Bool) (xs ys : List ℕ) → b ≡ true → AllZero (cond b xs [] ++ ys) → AllZero xs
 cond_zero true xs ys e h = all_left (λ x. x ≡ 0) xs ys h
 cond_zero false xs ys e h = absurd (cc)

@@ -1,7 +1,7 @@
 -- Flags of which one is set, by its place: what the constraints of flags come to, for any number of them.
-use Rattle.std.proofs.Common.{◌≡◌, ℕ, zero, suc, Bool, true, false, ◌||◌, nat_eq, ◌+◌, ◌<◌, ◌≤◌, List, [], ◌∷◌, length, map, slice_index, replicate, refl, ap, inl, inr, ◌∙◌, sym, arith}
+use Rattle.std.proofs.Common.{◌≡◌, ℕ, zero, suc, Bool, true, false, ◌||◌, nat_eq, ◌<◌, List, [], ◌∷◌, length, map, slice_index, replicate, refl, ap, inl, inr, ◌∙◌, sym, arith}
 use Rattle.std.specs.List.{AllByRecursion}
-use Rattle.vm_field.specs.Field.{modulus, field_add, field_mul}
+use Rattle.vm_field.specs.Field.{field_add, field_mul}
 use Rattle.air_core.specs.First.{bit}
 use Rattle.air_core.specs.Sheet.{AllZero, AllBelow}
 use Rattle.air_core.specs.Flags.{OneHot, one_hot, opcode_place, sum_from, weighted_from, flag_constraints}
