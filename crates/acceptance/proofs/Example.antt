@@ -31,7 +31,8 @@ use Rattle.air_core.specs.Balance.{Balanced, IsEven, amount_at, total}
 use Rattle.air_core.specs.First.{bit}
 use Rattle.air_core.specs.Flags.{flag_constraints}
 use Rattle.air_core.specs.Join.{single}
-use Rattle.air_core.specs.Nop.{nop_sheet, nop_row, nop_lines, nop_valid, nop_flags, nop_numbers, nop_op, nop_constraints}
+use Rattle.gadget_time.specs.Form.{columns_by, form_constraints}
+use Rattle.gadget_time.specs.Nop.{nop_sheet}
 use Rattle.air_core.specs.Path.{path_lines}
 use Rattle.air_core.specs.Sheet.{Sheet, IsRow, RowHolds, counted, row_events, sent, received}
 use Rattle.air_core.specs.System.{System, Part, EachRow, all_events}
@@ -274,13 +275,13 @@ abbrev nop_tuple : ℕ → List ℕ
 nop_tuple pc = pc ∷ 39 ∷ 0 ∷ 0 ∷ 0 ∷ 0 ∷ 0 ∷ 0 ∷ 0 ∷ 0 ∷ 0 ∷ 0 ∷ []
 
 step_lines : (hi pc : ℕ) → pc < 2 ^ 29 → (nop_sheet hi).lines (step_row pc) ≡ received 0 1 (pc ∷ 1 ∷ []) ∷ sent 0 1 ((pc + 4) ∷ 2 ∷ []) ∷ sent 1 1 (nop_tuple pc) ∷ []
-unfolding nop_row nop_lines path_lines nop_valid nop_flags nop_numbers nop_op
+unfolding columns_by path_lines
 step_lines hi pc low =
     let next : field_add pc 4 ≡ pc + 4 = omega (arith, low) in
     rw next refl
 
 step_holds : (hi pc : ℕ) → RowHolds (nop_sheet hi) (step_row pc)
-unfolding nop_constraints flag_constraints nop_flags nop_row bit
+unfolding columns_by form_constraints flag_constraints bit
 step_holds hi pc = (refl, (refl, tt))
 
 -- the connector, the row, and its program row

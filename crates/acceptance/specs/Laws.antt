@@ -16,7 +16,7 @@ use Rattle.air_core.specs.Balance.{Balanced, BalancedOn}
 use Rattle.air_core.specs.Totals.{SameTotals, is_bus}
 use Rattle.air_core.specs.System.{System}
 use Rattle.air_core.specs.Join.{single}
-use Rattle.air_core.specs.Nop.{nop_sheet}
+use Rattle.gadget_time.specs.Nop.{nop_sheet}
 use Rattle.exec_path.specs.Path.{Point, slot_sum}
 use Rattle.exec_path.specs.PathEvents.{execution_events}
 use Rattle.vm_trace.specs.declared.page.Touched.{Touched}

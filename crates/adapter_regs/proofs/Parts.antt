@@ -24,20 +24,3 @@ pub first_with : (b : Bool) (from : ℕ) (r : Regs ℕ) (own : List ℕ) → b �
     → first_from from (cond b (immediate_constraints field r) [] ++ own) ≡ or_else (first_from from (immediate_constraints field r)) (first_from (from + 4) own)
 first_with true from r own e = first_from-part from (from + 4) (immediate_constraints field r) own (omega (arith, length-immediate r))
 first_with false from r own e = absurd (cc)
-
-pub first_without : (b : Bool) (from : ℕ) (r : Regs ℕ) (own : List ℕ) → b ≡ false → first_from from (cond b (immediate_constraints field r) [] ++ own) ≡ first_from from own
-first_without true from r own e = absurd (cc)
-first_without false from r own e = refl
-
-pub length-cells_of : (b : Bool) (r : Regs ℕ) → length (regs_cells b r) ≡ words_from b + 12
-unfolding regs_cells list_of
-length-cells_of true r = refl
-length-cells_of false r = refl
-
-pub length-times : (r : Regs ℕ) → length (time_cells r) ≡ 9
-unfolding time_cells
-length-times r = refl
-
--- three parts, each written behind the one before
-pub three_parts : (first second last cells own times : List ℕ) (i j : ℕ) → take i first ≡ cells → take j second ≡ take i first ++ own → last ≡ take j second ++ times → last ≡ cells ++ (own ++ times)
-three_parts first second last cells own times i j a b c = c ∙ ap (λ (t : List ℕ). t ++ times) (b ∙ ap (λ (t : List ℕ). t ++ own) a) ∙ append_assoc cells own times

@@ -165,5 +165,11 @@ fn put_own<C: RegsCore>(rest: &mut [Fe], place: usize, left: Limbs, right: Limbs
     ensures long { length rest.new ≡ length rest.old }
     ensures so_far { take (words_from C.core.immediates + 12 + C.core.own) rest.new ≡ take (words_from C.core.immediates + 12) rest.old ++ C.core.filled place left right new }
 {
-    C::fill(place, left, right, new, &mut rest[own_from::<C>()..own_end::<C>()]);
+    C::fill(
+        place,
+        left,
+        right,
+        new,
+        &mut rest[own_from::<C>()..own_end::<C>()],
+    );
 }

@@ -2,15 +2,15 @@
 //! third register is written. A table of the form is a `RegsCore`.
 #![tactic(auto)]
 
-mod own;
 mod form;
 pub mod laws;
+mod own;
 mod put;
 pub mod records;
 mod regs;
 mod step;
 
-pub use own::RegsCore;
 pub use form::{RegsChip, RegsForm};
+pub use own::RegsCore;
 pub use regs::{Regs, immediate, numbers, read, touches, words_from};
 pub use step::{filled_regs, new_word};

@@ -61,7 +61,11 @@ pub fn read(immediates: bool, own: usize, pc: Fe, time: Fe, rest: &[Fe]) -> Regs
         rs1: rest[1],
         rs2: rest[2],
         use_imm: if immediates { rest[3] } else { Fe::ZERO },
-        imm: if immediates { Limbs::read(rest, 4) } else { Limbs::ZERO },
+        imm: if immediates {
+            Limbs::read(rest, 4)
+        } else {
+            Limbs::ZERO
+        },
         left: Limbs::read(rest, words),
         right: Limbs::read(rest, words + 4),
         old: Limbs::read(rest, words + 8),

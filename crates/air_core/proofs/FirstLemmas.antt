@@ -7,6 +7,7 @@ use Rattle.std.proofs.lemmas.List.Elements.{All-head, All-tail, All-cons, All-ni
 use Rattle.std.proofs.lemmas.List.{length-map}
 use Rattle.air_core.specs.First.{bit, first_from, or_else}
 use Rattle.air_core.specs.Flags.{sum_from, flag_constraints}
+use Rattle.air_core.specs.Sheet.{AllZero}
 use Rattle.air_core.specs.Ring.{field}
 
 pub first_from-append : (i : ℕ) (xs ys : List ℕ) → first_from i (xs ++ ys) ≡ or_else (first_from i xs) (first_from (i + length xs) ys)
@@ -38,15 +39,9 @@ first_from-all i (x ∷ xs) h =
     let here : x ≡ 0 = All-head (λ x. x ≡ 0) x xs h in
     rw (eq-eqb x 0 here) (first_from-all (i + 1) xs (All-tail (λ x. x ≡ 0) x xs h))
 
--- constraints that are 0 in both parts of a list, from a list that is
-pub All-append_left : (xs ys : List ℕ) → All (λ x. x ≡ 0) (xs ++ ys) → All (λ x. x ≡ 0) xs
-All-append_left [] ys h = All-nil (λ x. x ≡ 0)
-All-append_left (x ∷ xs) ys h =
-    All-cons (λ x. x ≡ 0) x xs (All-head (λ x. x ≡ 0) x (xs ++ ys) h) (All-append_left xs ys (All-tail (λ x. x ≡ 0) x (xs ++ ys) h))
-
-pub All-append_right : (xs ys : List ℕ) → All (λ x. x ≡ 0) (xs ++ ys) → All (λ x. x ≡ 0) ys
-All-append_right [] ys h = h
-All-append_right (x ∷ xs) ys h = All-append_right xs ys (All-tail (λ x. x ≡ 0) x (xs ++ ys) h)
+pub first_from-zero : (i : ℕ) (xs : List ℕ) → AllZero xs → first_from i xs ≡ None
+first_from-zero i [] h = refl
+first_from-zero i (x ∷ xs) h = rw (eq-eqb x 0 h.0) (first_from-zero (i + 1) xs h.1)
 
 -- the constraints of each flag, and then that of their sum
 pub flags_split : (flags : List ℕ) → first_from 0 (flag_constraints field flags) ≡ or_else (first_from 0 (map (bit field) flags)) (first_from (length flags) (bit field (sum_from field 0 flags) ∷ []))

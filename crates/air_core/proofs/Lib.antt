@@ -2,7 +2,6 @@ pub mod BalanceLemmas
 pub mod FirstLemmas
 pub mod Counted
 pub mod HintLemmas
-pub mod NopHint
 pub mod StepLaws
 pub mod LookupLemmas
 pub mod ExtensionLemmas

@@ -12,12 +12,13 @@ use Rattle.air_core.specs.Step.{on_bus}
 use Rattle.air_core.specs.System.{System, Part, is_owned, all_events, EachRow, rows_of, tables_for}
 use Rattle.air_core.specs.ExtensionLaws.{ExtensionFits, ExtensionBuses, ExtensionRows, ExtensionComplete, PartFits, PartBuses, PartRows, OnOwnBus, OneOwner, SaysRecord}
 use Rattle.air_core.proofs.ExtensionLemmas.{no_first, no_second}
+use Rattle.air_core.specs.declared.bus.TheConstants.{EXECUTION, PROGRAM, MEMORY}
 
 -- nothing on the machine's buses
 record Silent (events : List Event) : Type 0 where
-  path : on_bus 0 events ≡ []
-  program : on_bus 1 events ≡ []
-  memory : on_bus 2 events ≡ []
+  path : on_bus EXECUTION events ≡ []
+  program : on_bus PROGRAM events ≡ []
+  memory : on_bus MEMORY events ≡ []
 
 both_nothing : (bus : ℕ) (xs ys : List Event) → on_bus bus xs ≡ [] → on_bus bus ys ≡ [] → on_bus bus (xs ++ ys) ≡ []
 both_nothing bus xs ys a b = on_bus-append bus xs ys ∙ rw (a, b) refl

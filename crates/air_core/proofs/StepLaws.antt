@@ -10,6 +10,7 @@ use Rattle.air_core.specs.Sheet.{Sheet, IsRow, RowHolds, row_events, sent, recei
 use Rattle.air_core.specs.Lookups.{Good}
 use Rattle.air_core.specs.Laws.{Sound}
 use Rattle.air_core.specs.Step.{Touched, touched_events, Rising, on_bus, IsStep, SoundStep, IsMeaning}
+use Rattle.air_core.specs.declared.bus.TheConstants.{MEMORY, EXECUTION, PROGRAM}
 
 -- a list of one number more tells that number
 pub last_same : (xs ys : List ℕ) (a b : ℕ) → xs ++ (a ∷ []) ≡ ys ++ (b ∷ []) → (xs ≡ ys) × (a ≡ b)
@@ -51,8 +52,8 @@ accesses_same time slots from to [] [] below few p q e = refl
 accesses_same time slots from to [] (b ∷ ys) below few p q e = absurd (omega (arith, ap length e))
 accesses_same time slots from to (a ∷ xs) [] below few p q e = absurd (omega (arith, ap length e))
 accesses_same time slots from to (a ∷ xs) (b ∷ ys) below few p q e =
-    let taken : received 2 1 (a.space ∷ a.pointer ∷ (a.old ++ (a.before ∷ []))) ≡ received 2 1 (b.space ∷ b.pointer ∷ (b.old ++ (b.before ∷ []))) = cc in
-    let put : sent 2 1 (a.space ∷ a.pointer ∷ (a.new ++ (field_add time a.slot ∷ []))) ≡ sent 2 1 (b.space ∷ b.pointer ∷ (b.new ++ (field_add time b.slot ∷ []))) = cc in
+    let taken : received MEMORY 1 (a.space ∷ a.pointer ∷ (a.old ++ (a.before ∷ []))) ≡ received MEMORY 1 (b.space ∷ b.pointer ∷ (b.old ++ (b.before ∷ []))) = cc in
+    let put : sent MEMORY 1 (a.space ∷ a.pointer ∷ (a.new ++ (field_add time a.slot ∷ []))) ≡ sent MEMORY 1 (b.space ∷ b.pointer ∷ (b.new ++ (field_add time b.slot ∷ []))) = cc in
     let more : flat_map (touched_events time) xs ≡ flat_map (touched_events time) ys = cc in
     let here = access_same time slots a b below few p.1 q.1 (ap (λ (x : Event). x.tuple) taken) (ap (λ (x : Event). x.tuple) put) in
     let rest = accesses_same time slots (a.slot + 1) (b.slot + 1) xs ys below few p.2 q.2 more in
@@ -66,15 +67,15 @@ pub record SameStep (instr instr' : VmInstr) (time time' next next' : ℕ) (acce
   pub accesses_same : accesses ≡ accesses'
 
 -- the tuples of the path
-path_tuples : (a b c d : List ℕ) → received 0 1 a ∷ sent 0 1 b ∷ [] ≡ received 0 1 c ∷ sent 0 1 d ∷ [] → (a ≡ c) × (b ≡ d)
+path_tuples : (a b c d : List ℕ) → received EXECUTION 1 a ∷ sent EXECUTION 1 b ∷ [] ≡ received EXECUTION 1 c ∷ sent EXECUTION 1 d ∷ [] → (a ≡ c) × (b ≡ d)
 path_tuples a b c d e =
-    let first : received 0 1 a ≡ received 0 1 c = cc in
-    let second : sent 0 1 b ≡ sent 0 1 d = cc in
+    let first : received EXECUTION 1 a ≡ received EXECUTION 1 c = cc in
+    let second : sent EXECUTION 1 b ≡ sent EXECUTION 1 d = cc in
     (ap (λ (x : Event). x.tuple) first, ap (λ (x : Event). x.tuple) second)
 
-program_tuple : (a b : List ℕ) → sent 1 1 a ∷ [] ≡ sent 1 1 b ∷ [] → a ≡ b
+program_tuple : (a b : List ℕ) → sent PROGRAM 1 a ∷ [] ≡ sent PROGRAM 1 b ∷ [] → a ≡ b
 program_tuple a b e =
-    let first : sent 1 1 a ≡ sent 1 1 b = cc in
+    let first : sent PROGRAM 1 a ≡ sent PROGRAM 1 b = cc in
     ap (λ (x : Event). x.tuple) first
 
 pub step_same : (slots bits : ℕ) (instr instr' : VmInstr) (time time' next next' : ℕ) (accesses accesses' : List Touched) (events : List Event) → slots ≤ 64

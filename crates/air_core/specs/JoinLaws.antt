@@ -18,14 +18,11 @@ use Rattle.air_core.specs.System.{System, Part, is_owned, all_events, EachRow, G
 use Rattle.air_core.specs.ExtensionLaws.{ExtensionFits, ExtensionBuses, ExtensionRows, ExtensionTimed, ExtensionSound, ExtensionComplete, ExtensionQuiet, PartFits, PartBuses, PartRows, OnOwnBus, OneOwner, SoundRow, SaysRecord, RecordRows, QuietZeros, Joinable, lookup_count}
 use Rattle.air_core.specs.Join.{join}
 use Rattle.air_core.specs.PartLemmas.{is_owned-append, each_left, each_right, each_both, events_both, distinct_left, distinct_right, times_of-append, each_filled, events_filled, each_unfilled, events_unfilled, total_elsewhere, away, all_own, balanced_first, balanced_second}
+use Rattle.air_core.specs.lemmas.OneHot.{or_true}
 
 or_left : (a b : Bool) → a ≡ true → (a || b) ≡ true
 or_left true b h = refl
 or_left false b h = absurd (cc)
-
-or_right : (a b : Bool) → b ≡ true → (a || b) ≡ true
-or_right true b h = refl
-or_right false b h = h
 
 or_cases : (a b : Bool) → (a || b) ≡ true → (a ≡ true) ⊎ (b ≡ true)
 or_cases true b h = inl refl
@@ -42,7 +39,7 @@ one_owner (p ∷ xs) ys a b apart = (
   λ op owns.
       let other : is_owned ys op ≡ false = false_from_ne_true (is_owned ys op) (apart op (or_left (p.sheet.owns op) (is_owned xs op) owns)) in
       is_owned-append xs ys op ∙ rw (a.0 op owns, other) refl,
-  one_owner xs ys a.1 b (λ op h. apart op (or_right (p.sheet.owns op) (is_owned xs op) h)),
+  one_owner xs ys a.1 b (λ op h. apart op (or_true (p.sheet.owns op) (is_owned xs op) h)),
 )
 
 pub join_fits : (x y : System) → ExtensionFits x → ExtensionFits y → Joinable x y → ExtensionFits (join x y)
@@ -73,7 +70,7 @@ join_buses x y a b =
     let both : ℕ → Bool = λ bus. x.private bus || y.private bus in
     all_append (PartBuses both) x.parts y.parts
     (all_weaker (PartBuses x.private) (PartBuses both) (more_buses x.private both (λ bus h. or_left (x.private bus) (y.private bus) h)) x.parts a)
-    (all_weaker (PartBuses y.private) (PartBuses both) (more_buses y.private both (λ bus h. or_right (x.private bus) (y.private bus) h)) y.parts b)
+    (all_weaker (PartBuses y.private) (PartBuses both) (more_buses y.private both (λ bus h. or_true (x.private bus) (y.private bus) h)) y.parts b)
 
 -- Laws Rows, Timed and Quiet
 
@@ -129,7 +126,7 @@ whole_second x y fits buses j front rear n m w =
     record {
       count = m;
       rows = each_right GoodRow x.parts y.parts front rear n w.rows;
-      balanced = balanced_second y.private both (all_events x.parts front) (all_events y.parts rear) (λ bus h. or_right (x.private bus) (y.private bus) h)
+      balanced = balanced_second y.private both (all_events x.parts front) (all_events y.parts rear) (λ bus h. or_true (x.private bus) (y.private bus) h)
           (elsewhere y.private x.private fits.private_high (λ bus h k. j.buses bus k h) x.parts buses front) (subst (BalancedOn both) parted w.balanced);
       times = distinct_right (times_of (all_events x.parts front)) (times_of (all_events y.parts rear))
           (subst Distinct (ap times_of parted ∙ times_of-append (all_events x.parts front) (all_events y.parts rear)) w.times);

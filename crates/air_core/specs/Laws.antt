@@ -11,6 +11,7 @@ use Rattle.air_core.specs.declared.event.Side.TheVariants.{Send}
 use Rattle.air_core.specs.Sheet.{Sheet, OwnsSome, RowHolds, IsRow, AllZero, row_events, sent, received}
 use Rattle.air_core.specs.Lookups.{Good}
 use Rattle.air_core.specs.Step.{on_bus, TimedStep, SoundStep}
+use Rattle.air_core.specs.declared.bus.TheConstants.{MEMORY, EXECUTION, PROGRAM, XOR, SHA_CONSTANTS, FIRST_PRIVATE}
 
 -- What is asked of a table for an opcode that it owns: it has the opcode's slots, and one row fills
 -- a record of it.
@@ -31,14 +32,14 @@ pub record Fits (sheet : Sheet) : Type 0 where
 
 -- the program bus and the lookup buses
 abbrev pub is_lookup : ℕ → Bool
-is_lookup bus = nat_eq bus 1 || (nat_le 3 bus && nat_le bus 5)
+is_lookup bus = nat_eq bus PROGRAM || (nat_le XOR bus && nat_le bus SHA_CONSTANTS)
 
 -- An event on a bus that the table may use in this way: lookups are only sent, the machine's buses
 -- are for tables that own opcodes, and private buses for those that do not stand alone.
 pub record MayBus (sheet : Sheet) (e : Event) : Type 0 where
   pub lookup : is_lookup e.bus ≡ true → e.side ≡ Send
-  pub machine : e.bus < 3 → OwnsSome sheet
-  pub private : 6 ≤ e.bus → sheet.alone ≡ false
+  pub machine : e.bus < XOR → OwnsSome sheet
+  pub private : FIRST_PRIVATE ≤ e.bus → sheet.alone ≡ false
 
 -- Law Buses, of any row
 pub record Buses (sheet : Sheet) : Type 0 where
@@ -59,15 +60,15 @@ Sound sheet = sheet.alone ≡ true → (row : List ℕ) → IsRow sheet row → 
 -- the events of a record's access
 abbrev pub record_events : TimedAccess → List Event
 record_events a =
-    received 2 1 (a.access.space ∷ a.access.pointer ∷ (a.access.old ++ (a.before ∷ [])))
-    ∷ sent 2 1 (a.access.space ∷ a.access.pointer ∷ (a.access.new ++ (a.time ∷ [])))
+    received MEMORY 1 (a.access.space ∷ a.access.pointer ∷ (a.access.old ++ (a.before ∷ [])))
+    ∷ sent MEMORY 1 (a.access.space ∷ a.access.pointer ∷ (a.access.new ++ (a.time ∷ [])))
     ∷ []
 
 -- the events on the machine's buses are those of a record
 pub record Recorded (done : StepRecord) (events : List Event) : Type 0 where
-  pub path : on_bus 0 events ≡ received 0 1 (done.instr.pc ∷ done.time ∷ []) ∷ sent 0 1 (done.next ∷ (done.time + slots_of done.instr.op) ∷ []) ∷ []
-  pub program : on_bus 1 events ≡ sent 1 1 (numbers_of done.instr) ∷ []
-  pub memory : on_bus 2 events ≡ flat_map record_events done.accesses
+  pub path : on_bus EXECUTION events ≡ received EXECUTION 1 (done.instr.pc ∷ done.time ∷ []) ∷ sent EXECUTION 1 (done.next ∷ (done.time + slots_of done.instr.op) ∷ []) ∷ []
+  pub program : on_bus PROGRAM events ≡ sent PROGRAM 1 (numbers_of done.instr) ∷ []
+  pub memory : on_bus MEMORY events ≡ flat_map record_events done.accesses
 
 -- A row that was filled: it holds, its lookups and its program tuple are good, each count is 1, and
 -- in the table that owns the opcode it says what the record says.

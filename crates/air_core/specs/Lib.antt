@@ -17,8 +17,6 @@ pub mod ListLemmas
 pub mod FlagLaws
 pub mod PathLaws
 pub mod SoundLaws
-pub mod Nop
-pub mod NopLaws
 pub mod Orders
 pub mod Counts
 pub mod System

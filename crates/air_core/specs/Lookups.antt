@@ -4,6 +4,7 @@ use Rattle.sha_words.specs.Sha256.{round_constant}
 use Rattle.std.specs.List.{AllByRecursion}
 use Rattle.vm_isa.specs.Instr.{IsInstruction}
 use Rattle.air_core.specs.declared.event.Event.{Event}
+use Rattle.air_core.specs.declared.bus.TheConstants.{PROGRAM, XOR, RANGE, SHA_CONSTANTS}
 
 -- a row of the xor table: two bytes and their xor
 pub record IsXorRow (tuple : List ℕ) : Type 0 where
@@ -29,10 +30,10 @@ pub record IsConstantRow (tuple : List ℕ) : Type 0 where
 
 -- an event that is a lookup stands in its table, and a program tuple is an instruction's
 pub record GoodEvent (e : Event) : Type 0 where
-  pub program : e.bus ≡ 1 → IsInstruction e.tuple
-  pub xor : e.bus ≡ 3 → IsXorRow e.tuple
-  pub range : e.bus ≡ 4 → IsRangeRow e.tuple
-  pub constant : e.bus ≡ 5 → IsConstantRow e.tuple
+  pub program : e.bus ≡ PROGRAM → IsInstruction e.tuple
+  pub xor : e.bus ≡ XOR → IsXorRow e.tuple
+  pub range : e.bus ≡ RANGE → IsRangeRow e.tuple
+  pub constant : e.bus ≡ SHA_CONSTANTS → IsConstantRow e.tuple
 
 abbrev pub Good : List Event → Type 0
 Good events = AllByRecursion GoodEvent events

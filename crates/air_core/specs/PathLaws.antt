@@ -13,6 +13,7 @@ use Rattle.air_core.specs.Lookups.{GoodEvent}
 use Rattle.air_core.specs.Step.{on_bus, IsStep}
 use Rattle.air_core.specs.Laws.{Recorded}
 use Rattle.air_core.specs.Ring.{field}
+use Rattle.air_core.specs.declared.bus.TheConstants.{EXECUTION, PROGRAM, MEMORY}
 
 -- times of 16 + hi bits are far below the modulus
 pub time_fits : (hi time slots : ℕ) → hi ≤ 13 → time + slots ≤ 2 ^ (16 + hi) → time + slots ≤ 2 ^ 29
@@ -28,9 +29,9 @@ path_quiet valid pc time next slots numbers h = (h, (h, (h, tt)))
 
 -- the path of a valid row, bus by bus
 pub record PathOn (pc time next slots : ℕ) (numbers : List ℕ) (events : List Event) : Type 0 where
-  pub path : on_bus 0 events ≡ received 0 1 (pc ∷ time ∷ []) ∷ sent 0 1 (next ∷ field_add time slots ∷ []) ∷ []
-  pub program : on_bus 1 events ≡ sent 1 1 numbers ∷ []
-  pub memory : on_bus 2 events ≡ []
+  pub path : on_bus EXECUTION events ≡ received EXECUTION 1 (pc ∷ time ∷ []) ∷ sent EXECUTION 1 (next ∷ field_add time slots ∷ []) ∷ []
+  pub program : on_bus PROGRAM events ≡ sent PROGRAM 1 numbers ∷ []
+  pub memory : on_bus MEMORY events ≡ []
 
 path_on_one : (pc time next slots : ℕ) (numbers : List ℕ) → PathOn pc time next slots numbers (counted (path_lines field 1 pc time next slots numbers))
 unfolding path_lines
@@ -75,8 +76,8 @@ path_step slots bits instr valid pc time next numbers v range are at below =
       in_range = range;
       time_below = below;
       spoken = record {
-        path = on.path ∙ ap (λ (x : ℕ). received 0 1 (x ∷ time ∷ []) ∷ sent 0 1 (next ∷ field_add time slots ∷ []) ∷ []) at;
-        program = on.program ∙ ap (λ (xs : List ℕ). sent 1 1 xs ∷ []) are;
+        path = on.path ∙ ap (λ (x : ℕ). received EXECUTION 1 (x ∷ time ∷ []) ∷ sent EXECUTION 1 (next ∷ field_add time slots ∷ []) ∷ []) at;
+        program = on.program ∙ ap (λ (xs : List ℕ). sent PROGRAM 1 xs ∷ []) are;
         memory = on.memory;
       };
       words = tt;
@@ -93,6 +94,6 @@ path_recorded done valid next slots numbers v goes are ends none =
     let on = path_on valid done.instr.pc done.time next slots numbers v in
     record {
       path = on.path ∙ rw (goes, ends) refl;
-      program = on.program ∙ ap (λ (xs : List ℕ). sent 1 1 xs ∷ []) are;
+      program = on.program ∙ ap (λ (xs : List ℕ). sent PROGRAM 1 xs ∷ []) are;
       memory = on.memory ∙ rw none refl;
     }

@@ -8,6 +8,7 @@ use Rattle.vm_isa.specs.Instr.{InRange, numbers_of}
 use Rattle.vm_isa.specs.Means.{Accessed, means_of}
 use Rattle.air_core.specs.declared.event.Event.{Event}
 use Rattle.air_core.specs.Sheet.{sent, received}
+use Rattle.air_core.specs.declared.bus.TheConstants.{MEMORY, EXECUTION, PROGRAM}
 
 abbrev pub if_on : ℕ → Event → List Event
 if_on bus e = if nat_eq e.bus bus then e ∷ [] else []
@@ -29,8 +30,8 @@ pub record Touched : Type 0 where
 -- the row's time plus the slot, modulo p
 abbrev pub touched_events : ℕ → Touched → List Event
 touched_events time a =
-    received 2 1 (a.space ∷ a.pointer ∷ (a.old ++ (a.before ∷ [])))
-    ∷ sent 2 1 (a.space ∷ a.pointer ∷ (a.new ++ (field_add time a.slot ∷ [])))
+    received MEMORY 1 (a.space ∷ a.pointer ∷ (a.old ++ (a.before ∷ [])))
+    ∷ sent MEMORY 1 (a.space ∷ a.pointer ∷ (a.new ++ (field_add time a.slot ∷ [])))
     ∷ []
 
 -- both words are four numbers
@@ -51,9 +52,9 @@ NewBytes (a ∷ more) = IsBytes a.old → (IsBytes a.new × NewBytes more)
 -- The events on the machine's buses: one receive and one send on the execution bus, one program
 -- tuple, and the accesses. Each count is 1.
 pub record Spoken (slots : ℕ) (instr : VmInstr) (time next : ℕ) (accesses : List Touched) (events : List Event) : Type 0 where
-  pub path : on_bus 0 events ≡ received 0 1 (instr.pc ∷ time ∷ []) ∷ sent 0 1 (next ∷ field_add time slots ∷ []) ∷ []
-  pub program : on_bus 1 events ≡ sent 1 1 (numbers_of instr) ∷ []
-  pub memory : on_bus 2 events ≡ flat_map (touched_events time) accesses
+  pub path : on_bus EXECUTION events ≡ received EXECUTION 1 (instr.pc ∷ time ∷ []) ∷ sent EXECUTION 1 (next ∷ field_add time slots ∷ []) ∷ []
+  pub program : on_bus PROGRAM events ≡ sent PROGRAM 1 (numbers_of instr) ∷ []
+  pub memory : on_bus MEMORY events ≡ flat_map (touched_events time) accesses
 
 -- The events are a step in time. Nothing is asked of old words but for the bytes of new ones; an
 -- access is after the old time of its block where the step ends by 2 ^ bits and this old time is no later.

@@ -7,7 +7,7 @@ use Rattle.vm_field.specs.Limbs.{list_of, limbs_from}
 use Rattle.gadget_limbs.specs.Sum.{sum_constraints}
 use Rattle.air_core.specs.Ring.{field}
 use Rattle.adapter_regs.specs.Core.{Operands}
-use Rattle.chip_alu.specs.Alu.{alu_core, sums_of}
+use Rattle.chip_alu.specs.Alu.{alu_core, alu_sums}
 
 pub length-sum : (g : ℕ) (x y z : Limbs ℕ) → length (sum_constraints field g 0 (list_of x) (list_of y) (list_of z)) ≡ 4
 unfolding sum_constraints list_of
@@ -17,7 +17,7 @@ pub length-alu : (o : Operands ℕ) → length (alu_core.parts.constraints o) �
 unfolding sum_constraints list_of
 length-alu o = refl
 
-pub first_of_sums : (from add sub : ℕ) (a b c : Limbs ℕ) → first_from from (sums_of field add sub a b c)
+pub first_of_sums : (from add sub : ℕ) (a b c : Limbs ℕ) → first_from from (alu_sums field add sub a b c)
     ≡ or_else (first_from from (sum_constraints field add 0 (list_of b) (list_of c) (list_of a))) (first_from (from + 4) (sum_constraints field sub 0 (list_of a) (list_of c) (list_of b)))
 first_of_sums from add sub a b c =
     first_from-part from (from + 4) (sum_constraints field add 0 (list_of b) (list_of c) (list_of a)) (sum_constraints field sub 0 (list_of a) (list_of c) (list_of b)) (omega (arith, length-sum add b c a))

@@ -4,7 +4,7 @@ use Rattle.std.specs.Prelude.{ℕ, true, List, [], ◌∷◌, ◌++◌}
 use Rattle.vm_field.specs.declared.limbs.Limbs.{Limbs}
 use Rattle.vm_field.specs.Limbs.{limbs_by, list_of}
 use Rattle.vm_isa.specs.Opcodes.{ADD, SUB, XOR, OR, AND}
-use Rattle.air_core.specs.Flags.{sum_from, place_of}
+use Rattle.air_core.specs.Flags.{sum_from, opcode_place}
 use Rattle.air_core.specs.Ring.{Ring, field, cell}
 use Rattle.gadget_limbs.specs.declared.lookup.OperationFlags.{OperationFlags}
 use Rattle.gadget_limbs.specs.Lookup.{lookup_lines}
@@ -21,8 +21,8 @@ abbrev pub result_of : {A E : Type 0} → Ring A E → List A → Limbs A
 result_of o own = limbs_by (cell o own) 0
 
 -- by the flag of ADD the words add up to the result, and by that of SUB the result and the second word to the first
-abbrev pub sums_of : {A E : Type 0} → Ring A E → A → A → Limbs A → Limbs A → Limbs A → List A
-sums_of o add sub a b c = sum_constraints o add (o.number 0) (list_of b) (list_of c) (list_of a) ++ sum_constraints o sub (o.number 0) (list_of a) (list_of c) (list_of b)
+abbrev pub alu_sums : {A E : Type 0} → Ring A E → A → A → Limbs A → Limbs A → Limbs A → List A
+alu_sums o add sub a b c = sum_constraints o add (o.number 0) (list_of b) (list_of c) (list_of a) ++ sum_constraints o sub (o.number 0) (list_of a) (list_of c) (list_of b)
 
 -- the flags by their operations
 abbrev pub operation : {A E : Type 0} → Ring A E → List A → OperationFlags A
@@ -37,7 +37,7 @@ operation o flags = record {
 abbrev pub alu_parts : {A E : Type 0} → Ring A E → CoreParts A E
 alu_parts o = record {
   new = λ x. result_of o x.own;
-  constraints = λ x. sums_of o (cell o x.flags 0) (cell o x.flags 1) (result_of o x.own) x.left x.right;
+  constraints = λ x. alu_sums o (cell o x.flags 0) (cell o x.flags 1) (result_of o x.own) x.left x.right;
   lookups = λ x. lookup_lines o (operation o x.flags) (result_of o x.own) x.left x.right;
 }
 
@@ -47,7 +47,7 @@ alu_core = record {
   opcodes = alu_opcodes;
   own = 4;
   parts = alu_parts field;
-  place = λ op left right. place_of alu_opcodes op;
+  place = λ op left right. opcode_place alu_opcodes op;
   filled = λ place left right new. list_of new;
 }
 

@@ -4,7 +4,7 @@
 ghost use Rattle.std.specs.Prelude.{◌≡◌, ◌≤◌, ◌<◌, ◌^◌, length};
 ghost use Rattle.air_core.specs.First.{first_from};
 ghost use Rattle.air_core.specs.Ring.{field};
-ghost use Rattle.chip_alu.specs.Alu.{sums_of, operation, result_of};
+ghost use Rattle.chip_alu.specs.Alu.{alu_sums, operation, result_of};
 
 pub mod laws;
 #[cfg(test)]
@@ -25,6 +25,15 @@ pub type AluAt<const HI: u32> = RegsChip<AluCore, HI>;
 
 /// The table with times of 24 bits.
 pub type Alu = AluAt<8>;
+
+/// The opcode of each flag.
+const OPCODES: [u16; 5] = [
+    opcode::ADD as u16,
+    opcode::SUB as u16,
+    opcode::XOR as u16,
+    opcode::OR as u16,
+    opcode::AND as u16,
+];
 
 /// The flags by their operations.
 fn operation(flags: &[Fe]) -> OperationFlags
@@ -52,7 +61,7 @@ fn result_of(own: &[Fe]) -> Limbs
 /// The words add up to the result under one gate, and the result and the second word to the first under the other.
 fn sums_broken(from: u32, add: Fe, sub: Fe, a: Limbs, b: Limbs, c: Limbs) -> Option<u32>
     requires { from < 2 ^ 17 }
-    ensures { result ≡ first_from from (sums_of field add sub a b c) }
+    ensures { result ≡ first_from from (alu_sums field add sub a b c) }
 {
     let (new, left, right) = (a.array(), b.array(), c.array());
     let sums = gadget_limbs::first_broken(from, add, &left, &right, &new);
@@ -93,7 +102,7 @@ impl RegsCore for AluCore {
 
     fn opcode(flags: &[Fe]) -> Fe {
         let flags = [flags[0], flags[1], flags[2], flags[3], flags[4]];
-        air_core::opcode(&flags, &[opcode::ADD as u16, opcode::SUB as u16, opcode::XOR as u16, opcode::OR as u16, opcode::AND as u16])
+        air_core::opcode(&flags, &OPCODES)
     }
 
     fn new_word(flags: &[Fe], own: &[Fe], left: Limbs, right: Limbs) -> Limbs {

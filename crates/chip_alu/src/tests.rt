@@ -16,6 +16,7 @@ const DIFFERENCE: [u32; 40] = [
     4096, 100, 0, 1, 0, 0, 0, 5, 6, 7, 0, 0, 0, 0, 0, 3, 2, 1, 0, 4, 3, 0, 0, 9, 8, 7, 6, 255, 254,
     0, 0, 90, 9, 0, 50, 50, 0, 0, 101, 0,
 ];
+
 const XOR: [u32; 40] = [
     4096, 100, 0, 0, 1, 0, 0, 5, 6, 7, 0, 0, 0, 0, 0, 3, 2, 1, 0, 4, 3, 0, 0, 9, 8, 7, 6, 7, 1, 1,
     0, 90, 9, 0, 50, 50, 0, 0, 101, 0,
@@ -64,7 +65,10 @@ fn each_limb_wrong(rt: HostRuntime) -> Result<(), Fail> {
     for limb in 0..4 {
         let mut row = difference;
         row[27 + limb] = row[27 + limb].add(Fe::ONE);
-        assert_eq!(rt; refusal_of(rt.alloc(), &row)?, Refusal::Constraint(14 + limb as u32));
+        assert_eq!(rt;
+            refusal_of(rt.alloc(), &row)?,
+            Refusal::Constraint(14 + limb as u32)
+        );
         let mut row = xor;
         row[27 + limb] = row[27 + limb].add(Fe::ONE);
         assert_eq!(rt; refusal_of(rt.alloc(), &row)?, Refusal::Lookup(15 + limb));
@@ -76,10 +80,23 @@ fn each_limb_wrong(rt: HostRuntime) -> Result<(), Fail> {
 #[test]
 fn a_limb_of_256(rt: HostRuntime) -> Result<(), Fail> {
     let mut numbers = DIFFERENCE;
-    for (column, number) in [(2, 1), (3, 0), (15, 255), (16, 0), (17, 0), (19, 1), (20, 0), (27, 256), (28, 0)] {
+    for (column, number) in [
+        (2, 1),
+        (3, 0),
+        (15, 255),
+        (16, 0),
+        (17, 0),
+        (19, 1),
+        (20, 0),
+        (27, 256),
+        (28, 0),
+    ] {
         numbers[column] = number;
     }
-    assert_eq!(rt; refusal_of(rt.alloc(), &elements(&numbers))?, Refusal::Lookup(15));
+    assert_eq!(rt;
+        refusal_of(rt.alloc(), &elements(&numbers))?,
+        Refusal::Lookup(15)
+    );
     Ok(())
 }
 
@@ -96,7 +113,13 @@ fn as_an_extension(rt: HostRuntime) -> Result<(), Fail> {
 }
 
 /// Whether the filled row of an operation is right, and no longer so with the second limb of its result off by one.
-fn is_right(alloc: Global, op: u8, left: u32, right: u32, form: (bool, u8)) -> Result<bool, OutOfMemory>
+fn is_right(
+    alloc: Global,
+    op: u8,
+    left: u32,
+    right: u32,
+    form: (bool, u8),
+) -> Result<bool, OutOfMemory>
     requires owned { is_from 1 5 op ≡ true }
     requires register { form.1 < 32 }
 {

@@ -9,6 +9,7 @@ use Rattle.air_core.specs.Sheet.{IsRow, RowHolds, counted, row_events, received}
 use Rattle.air_core.specs.System.{sheet_at}
 use Rattle.extension_tests.specs.Pair.{pair, step_sheet, step_lines, step_numbers}
 use Rattle.extension_tests.specs.PairLaws.{flag_of, silent}
+use Rattle.air_core.specs.declared.bus.TheConstants.{FIRST_PRIVATE}
 
 valid_no_hint : (pc time x : ℕ) → NoHint (counted (step_lines pc time 1 x))
 unfolding step_lines path_lines step_numbers
@@ -25,7 +26,7 @@ step_no_hint row is holds =
     (λ (one : flag ≡ 1). subst (λ (f : ℕ). NoHint (counted (step_lines pc time f x))) (sym one) (valid_no_hint pc time x))
     (flag_of flag (below_at row 2 is.below) holds.0)
 
-answer_by : (y count : ℕ) (none : Bool) → NoHint (cond none [] (received 6 count (y ∷ []) ∷ []) ++ [])
+answer_by : (y count : ℕ) (none : Bool) → NoHint (cond none [] (received FIRST_PRIVATE count (y ∷ []) ∷ []) ++ [])
 answer_by y count true = record { hint = refl; next = refl }
 answer_by y count false = record { hint = refl; next = refl }
 

@@ -7,6 +7,7 @@ use Rattle.air_core.specs.Path.{path_lines}
 use Rattle.air_core.specs.Sheet.{Sheet, sent, received}
 use Rattle.air_core.specs.System.{System}
 use Rattle.air_core.specs.Ring.{field}
+use Rattle.air_core.specs.declared.bus.TheConstants.{FIRST_PRIVATE}
 
 -- the program row of a no-operation, where the flag is set
 unfoldable pub step_numbers : ℕ → ℕ → List ℕ
@@ -14,7 +15,7 @@ step_numbers pc flag = pc ∷ field_mul flag 39 ∷ 0 ∷ 0 ∷ 0 ∷ 0 ∷ 0 �
 
 -- the step, and the question
 unfoldable pub step_lines : ℕ → ℕ → ℕ → ℕ → List Event
-step_lines pc time flag x = path_lines field flag pc time (field_add pc x) 1 (step_numbers pc flag) ++ (sent 6 flag (x ∷ []) ∷ [])
+step_lines pc time flag x = path_lines field flag pc time (field_add pc x) 1 (step_numbers pc flag) ++ (sent FIRST_PRIVATE flag (x ∷ []) ∷ [])
 
 -- columns pc, t, flag, x
 abbrev pub step_sheet : Sheet
@@ -49,7 +50,7 @@ answer_sheet = record {
   takes = λ op. nat_eq op 39;
   alone = false;
   constraints = λ row. answer_constraint (slice_index row 0) (slice_index row 1) ∷ [];
-  lines = λ row. received 6 (slice_index row 1) (slice_index row 0 ∷ []) ∷ [];
+  lines = λ row. received FIRST_PRIVATE (slice_index row 1) (slice_index row 0 ∷ []) ∷ [];
   filled = λ done place. 4 ∷ 1 ∷ [];
 }
 

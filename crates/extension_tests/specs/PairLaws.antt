@@ -26,6 +26,7 @@ use Rattle.air_core.specs.System.{tables_for}
 use Rattle.air_core.specs.ExtensionLaws.{ExtensionFits, ExtensionBuses, ExtensionRows, ExtensionTimed, ExtensionComplete, ExtensionQuiet, OnOwnBus, SlotsFit, RecordRows, lookup_count}
 use Rattle.extension_tests.specs.Pair.{pair, step_sheet, answer_sheet, step_lines, step_numbers, answer_constraint}
 use Rattle.air_core.specs.Ring.{field}
+use Rattle.air_core.specs.declared.bus.TheConstants.{FIRST_PRIVATE, EXECUTION, PROGRAM, MEMORY}
 
 -- Law Fits
 
@@ -141,22 +142,22 @@ unfolding step_lines path_lines
 silent pc time flag x none = counted_none (step_lines pc time flag x) (none, (none, (none, (none, tt))))
 
 -- what the row says is its path, and then the question
-pub says : (pc time flag x : ℕ) → flag ≡ 1 → counted (step_lines pc time flag x) ≡ counted (path_lines field flag pc time (field_add pc x) 1 (step_numbers pc flag)) ++ (sent 6 1 (x ∷ []) ∷ [])
+pub says : (pc time flag x : ℕ) → flag ≡ 1 → counted (step_lines pc time flag x) ≡ counted (path_lines field flag pc time (field_add pc x) 1 (step_numbers pc flag)) ++ (sent FIRST_PRIVATE 1 (x ∷ []) ∷ [])
 unfolding step_lines
 says pc time flag x one =
-    counted-append (path_lines field flag pc time (field_add pc x) 1 (step_numbers pc flag)) (sent 6 flag (x ∷ []) ∷ [])
-    ∙ ap (λ (f : ℕ). counted (path_lines field flag pc time (field_add pc x) 1 (step_numbers pc flag)) ++ counted (sent 6 f (x ∷ []) ∷ [])) one
+    counted-append (path_lines field flag pc time (field_add pc x) 1 (step_numbers pc flag)) (sent FIRST_PRIVATE flag (x ∷ []) ∷ [])
+    ∙ ap (λ (f : ℕ). counted (path_lines field flag pc time (field_add pc x) 1 (step_numbers pc flag)) ++ counted (sent FIRST_PRIVATE f (x ∷ []) ∷ [])) one
 
 -- a step with an event more, which is on none of the machine's buses
-step_more : (slots bits : ℕ) (instr : VmInstr) (time next : ℕ) (accesses : List Touched) (events more : List Event) → on_bus 0 more ≡ [] → on_bus 1 more ≡ [] → on_bus 2 more ≡ []
+step_more : (slots bits : ℕ) (instr : VmInstr) (time next : ℕ) (accesses : List Touched) (events more : List Event) → on_bus EXECUTION more ≡ [] → on_bus PROGRAM more ≡ [] → on_bus MEMORY more ≡ []
     → IsStep slots bits instr time next accesses events → IsStep slots bits instr time next accesses (events ++ more)
 step_more slots bits instr time next accesses events more a b c s = record {
   in_range = s.in_range;
   time_below = s.time_below;
   spoken = record {
-    path = on_bus-append 0 events more ∙ ap (λ (t : List Event). on_bus 0 events ++ t) a ∙ append-nil (on_bus 0 events) ∙ s.spoken.path;
-    program = on_bus-append 1 events more ∙ ap (λ (t : List Event). on_bus 1 events ++ t) b ∙ append-nil (on_bus 1 events) ∙ s.spoken.program;
-    memory = on_bus-append 2 events more ∙ ap (λ (t : List Event). on_bus 2 events ++ t) c ∙ append-nil (on_bus 2 events) ∙ s.spoken.memory;
+    path = on_bus-append 0 events more ∙ ap (λ (t : List Event). on_bus EXECUTION events ++ t) a ∙ append-nil (on_bus EXECUTION events) ∙ s.spoken.path;
+    program = on_bus-append 1 events more ∙ ap (λ (t : List Event). on_bus PROGRAM events ++ t) b ∙ append-nil (on_bus PROGRAM events) ∙ s.spoken.program;
+    memory = on_bus-append 2 events more ∙ ap (λ (t : List Event). on_bus MEMORY events ++ t) c ∙ append-nil (on_bus MEMORY events) ∙ s.spoken.memory;
   };
   words = s.words;
   rising = s.rising;
@@ -187,8 +188,8 @@ program : (pc time flag x : ℕ) → flag ≡ 1 → Good (counted (step_lines pc
 unfolding step_lines
 program pc time flag x one good =
     let path = path_lines field flag pc time (field_add pc x) 1 (step_numbers pc flag) in
-    let lines = all_counted_back GoodEvent (path ++ (sent 6 flag (x ∷ []) ∷ [])) good in
-    path_program flag pc time (field_add pc x) 1 (step_numbers pc flag) one (all_left (λ e. e.count ≢ 0 → GoodEvent e) path (sent 6 flag (x ∷ []) ∷ []) lines)
+    let lines = all_counted_back GoodEvent (path ++ (sent FIRST_PRIVATE flag (x ∷ []) ∷ [])) good in
+    path_program flag pc time (field_add pc x) 1 (step_numbers pc flag) one (all_left (λ e. e.count ≢ 0 → GoodEvent e) path (sent FIRST_PRIVATE flag (x ∷ []) ∷ []) lines)
 
 pub stepped : (pc time flag x : ℕ) → time < modulus → flag ≡ 1 → Good (counted (step_lines pc time flag x)) → Stepped pc time flag x
 stepped pc time flag x low one good =
@@ -201,7 +202,7 @@ stepped pc time flag x low one good =
       nop = nop;
       in_range = p.in_range;
       step = subst (IsStep 1 24 p.instr time (field_add pc x) []) (sym (says pc time flag x one))
-          (step_more 1 24 p.instr time (field_add pc x) [] (counted path) (sent 6 1 (x ∷ []) ∷ []) refl refl refl s);
+          (step_more 1 24 p.instr time (field_add pc x) [] (counted path) (sent FIRST_PRIVATE 1 (x ∷ []) ∷ []) refl refl refl s);
     }
 
 timed_row : (pc time flag x : ℕ) → time < modulus → flag < modulus → bit field flag ≡ 0 → Good (counted (step_lines pc time flag x))
@@ -239,15 +240,15 @@ good_step : (pc time : ℕ) → IsInstruction (step_numbers pc 1) → Good (coun
 unfolding step_lines
 good_step pc time is =
     let path = path_lines field 1 pc time (field_add pc 4) 1 (step_numbers pc 1) in
-    all_counted_some GoodEvent (path ++ (sent 6 1 (4 ∷ []) ∷ []))
-    (all_append (λ e. e.count ≢ 0 → GoodEvent e) path (sent 6 1 (4 ∷ []) ∷ []) (path_good 1 pc time (field_add pc 4) 1 (step_numbers pc 1) is)
+    all_counted_some GoodEvent (path ++ (sent FIRST_PRIVATE 1 (4 ∷ []) ∷ []))
+    (all_append (λ e. e.count ≢ 0 → GoodEvent e) path (sent FIRST_PRIVATE 1 (4 ∷ []) ∷ []) (path_good 1 pc time (field_add pc 4) 1 (step_numbers pc 1) is)
     (λ n. good_free _ (omega arith) (omega arith) (omega arith) (omega arith), tt))
 
-recorded_more : (done : StepRecord) (events more : List Event) → on_bus 0 more ≡ [] → on_bus 1 more ≡ [] → on_bus 2 more ≡ [] → Recorded done events → Recorded done (events ++ more)
+recorded_more : (done : StepRecord) (events more : List Event) → on_bus EXECUTION more ≡ [] → on_bus PROGRAM more ≡ [] → on_bus MEMORY more ≡ [] → Recorded done events → Recorded done (events ++ more)
 recorded_more done events more a b c r = record {
-  path = on_bus-append 0 events more ∙ ap (λ (t : List Event). on_bus 0 events ++ t) a ∙ append-nil (on_bus 0 events) ∙ r.path;
-  program = on_bus-append 1 events more ∙ ap (λ (t : List Event). on_bus 1 events ++ t) b ∙ append-nil (on_bus 1 events) ∙ r.program;
-  memory = on_bus-append 2 events more ∙ ap (λ (t : List Event). on_bus 2 events ++ t) c ∙ append-nil (on_bus 2 events) ∙ r.memory;
+  path = on_bus-append 0 events more ∙ ap (λ (t : List Event). on_bus EXECUTION events ++ t) a ∙ append-nil (on_bus EXECUTION events) ∙ r.path;
+  program = on_bus-append 1 events more ∙ ap (λ (t : List Event). on_bus PROGRAM events ++ t) b ∙ append-nil (on_bus PROGRAM events) ∙ r.program;
+  memory = on_bus-append 2 events more ∙ ap (λ (t : List Event). on_bus MEMORY events ++ t) c ∙ append-nil (on_bus MEMORY events) ∙ r.memory;
 }
 
 recorded : (done : StepRecord) → Fillable 24 done → done.instr.op ≡ 39 → Recorded done (counted (step_lines done.instr.pc done.time 1 4))
@@ -259,17 +260,17 @@ recorded done f op =
     let ends : field_add done.time 1 ≡ done.time + slots_of done.instr.op = omega (arith, time_fits 8 done.time (slots_of done.instr.op) (lit≤ tt) f.ends, slots) in
     let r = path_recorded done 1 (field_add pc 4) 1 (step_numbers pc 1) refl next (filled_numbers done.instr f.in_range op) ends shape.none in
     subst (Recorded done) (sym (says pc done.time 1 4 refl))
-    (recorded_more done (counted (path_lines field 1 pc done.time (field_add pc 4) 1 (step_numbers pc 1))) (sent 6 1 (4 ∷ []) ∷ []) refl refl refl r)
+    (recorded_more done (counted (path_lines field 1 pc done.time (field_add pc 4) 1 (step_numbers pc 1))) (sent FIRST_PRIVATE 1 (4 ∷ []) ∷ []) refl refl refl r)
 
 two_tables : (done : StepRecord) → nat_eq done.instr.op 39 ≡ true
     → ((done.instr.pc ∷ done.time ∷ 1 ∷ 4 ∷ []) ∷ []) ∷ ((4 ∷ 1 ∷ []) ∷ []) ∷ [] ≡ tables_for done pair.parts
 two_tables done h = rw h refl
 
-balanced : (pc time : ℕ) → BalancedOn pair.private ((counted (step_lines pc time 1 4) ++ []) ++ ((counted (received 6 1 (4 ∷ []) ∷ []) ++ []) ++ []))
+balanced : (pc time : ℕ) → BalancedOn pair.private ((counted (step_lines pc time 1 4) ++ []) ++ ((counted (received FIRST_PRIVATE 1 (4 ∷ []) ∷ []) ++ []) ++ []))
 unfolding step_lines path_lines
 balanced pc time = record { even = λ bus tuple h. let is : bus ≡ 6 = eqb-true bus 6 h in rw is (omega arith) }
 
-few : (pc time : ℕ) → sum_by lookup_count ((counted (step_lines pc time 1 4) ++ []) ++ ((counted (received 6 1 (4 ∷ []) ∷ []) ++ []) ++ [])) ≤ 4096
+few : (pc time : ℕ) → sum_by lookup_count ((counted (step_lines pc time 1 4) ++ []) ++ ((counted (received FIRST_PRIVATE 1 (4 ∷ []) ∷ []) ++ []) ++ [])) ≤ 4096
 unfolding step_lines path_lines
 few pc time = lit≤ tt
 

@@ -23,6 +23,7 @@ use Rattle.air_core.proofs.BalanceLemmas.{member_of_total, test_of_there}
 use Rattle.extension_tests.specs.Pair.{pair, step_sheet, answer_sheet, step_lines, step_numbers, answer_constraint}
 use Rattle.extension_tests.specs.PairLaws.{stepped, flag_of, silent, says, IsNop}
 use Rattle.air_core.specs.Ring.{field}
+use Rattle.air_core.specs.declared.bus.TheConstants.{FIRST_PRIVATE}
 
 -- what is received on bus 6 is 4
 record GivesFour (e : Event) : Type 0 where
@@ -86,7 +87,7 @@ asked_is_four events gives x even some =
 asks : (pc time flag x : ℕ) → flag ≡ 1 → 0 < total Send 6 (x ∷ []) (counted (step_lines pc time flag x))
 asks pc time flag x one =
     let path = counted (path_lines field flag pc time (field_add pc x) 1 (step_numbers pc flag)) in
-    let question = sent 6 1 (x ∷ []) in
+    let question = sent FIRST_PRIVATE 1 (x ∷ []) in
     let here : is_at Send 6 (x ∷ []) question ≡ true = test_of_there Send 6 (x ∷ []) question (record { bus_is = refl; side_is = refl; tuple_is = refl }) in
     let counts : amount_at Send 6 (x ∷ []) question ≡ 1 = rw here refl in
     let parts : total Send 6 (x ∷ []) (counted (step_lines pc time flag x)) ≡ total Send 6 (x ∷ []) path + total Send 6 (x ∷ []) (question ∷ [])

@@ -1,14 +1,16 @@
 //! Two tables whose meaning hangs on a private bus.
 
-ghost use Rattle.std.specs.Prelude.{◌≡◌, ◌<◌, length};
+ghost use Rattle.std.specs.Prelude.{◌≡◌, ◌<◌, ◌≤◌, length, OnOk, OnErr};
 ghost use Rattle.air_core.specs.First.{first_from};
+ghost use Rattle.air_core.specs.Sheet.{counted};
+ghost use Rattle.air_core.specs.Sink.{Handed, HandedSome};
 ghost use Rattle.extension_tests.specs.Pair.{pair, step_sheet, answer_sheet, step_lines, step_numbers, answer_constraint};
 ghost use Rattle.extension_tests.specs.PairLaws.{pair_fits, pair_buses, pair_rows, pair_timed, pair_complete, pair_quiet};
 ghost use Rattle.extension_tests.specs.PairSound.{pair_sound};
 
 use air_core::{
-    Event, EventSink, Extension, HintWord, OutOfMemory, bit, element, first_nonzero, hand_counted,
-    path_events, receive, send,
+    EventSink, Extension, HintWord, OutOfMemory, bit, bus, element, emit_path, emit_received,
+    emit_sent, first_nonzero,
 };
 use vm_field::Fe;
 use vm_isa::{StepRecord, opcode};
@@ -54,8 +56,8 @@ impl Extension for Pair {
         if op == opcode::NOP { Some(0) } else { None }
     }
 
-    fn is_private(&self, bus: u8) -> bool {
-        bus == 6
+    fn is_private(&self, number: u8) -> bool {
+        number == bus::FIRST_PRIVATE
     }
 
     fn rows_for(&self, done: &StepRecord, _table: u32) -> u32 {
@@ -77,8 +79,8 @@ impl Extension for Pair {
         sink: &mut S,
     ) -> Result<(), OutOfMemory> {
         match table {
-            0 => hand_counted(&step_events(row[0], row[1], row[2], row[3]), sink),
-            1 => hand_counted(&answer_events(row), sink),
+            0 => emit_step(row[0], row[1], row[2], row[3], sink),
+            1 => emit_received(bus::FIRST_PRIVATE, row[1], &[row[0]], sink),
             _ => unreachable!(),
         }
     }
@@ -118,17 +120,19 @@ fn numbers(pc: Fe, flag: Fe) -> [Fe; 12]
     numbers
 }
 
+/// The step, and its number on the private bus.
 #[tactic(auto, unfolding(crate::specs::Pair::step_lines))]
-fn step_events(pc: Fe, time: Fe, flag: Fe, x: Fe) -> [Event; 4]
-    ensures { result ≡ step_lines pc time flag x }
+fn emit_step<S: EventSink>(
+    pc: Fe,
+    time: Fe,
+    flag: Fe,
+    x: Fe,
+    sink: &mut S,
+) -> Result<(), OutOfMemory>
+    requires room { 4 ≤ S.room sink.old }
+    ensures ok { OnOk result (Handed S.holds S.room sink.old sink.new (counted (step_lines pc time flag x))) }
+    ensures err { OnErr result (HandedSome S.holds S.room sink.old sink.new (counted (step_lines pc time flag x))) }
 {
-    let [from, to, program] = path_events(flag, pc, time, pc.add(x), 1, &numbers(pc, flag));
-    [from, to, program, send(6, flag, &[x])]
-}
-
-fn answer_events(row: &[Fe]) -> [Event; 1]
-    requires { length row.now ≡ 2 }
-    ensures { result ≡ answer_sheet.lines row.now }
-{
-    [receive(6, row[1], &[row[0]])]
+    emit_path(flag, pc, time, pc.add(x), 1, &numbers(pc, flag), sink)?;
+    emit_sent(bus::FIRST_PRIVATE, flag, &[x], sink)
 }

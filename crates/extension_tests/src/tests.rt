@@ -3,7 +3,8 @@
 ghost use Rattle.std.specs.Prelude.{◌≡◌};
 
 use super::*;
-use air_core::{Both, Event, Extension, NoChips, Nop, OutOfMemory, Reserved, Side, Single, Tuple};
+use air_core::{Both, Event, Extension, NoChips, OutOfMemory, Reserved, Side, Single, Tuple};
+use gadget_time::Nop;
 use std::alloc::Global;
 use std::test::Fail;
 use vm_field::Fe;

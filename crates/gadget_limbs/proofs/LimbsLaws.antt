@@ -5,17 +5,12 @@ use Rattle.vm_word.specs.Word.{word_of_limbs, limbs_of}
 use Rattle.vm_word.proofs.WordLemmas.{word_of_limbs-lt, limbs_of-word_of_limbs}
 use Rattle.vm_isa.specs.Words.{IsBytes, IsWord}
 use Rattle.air_core.specs.Sheet.{AllBelow}
-use Rattle.air_core.specs.ListLemmas.{below_at, all_weaker}
+use Rattle.air_core.specs.ListLemmas.{all_weaker}
 use Rattle.vm_field.specs.declared.limbs.Limbs.{Limbs}
-use Rattle.vm_field.specs.Limbs.{list_of, limbs_at, LimbsBelow}
+use Rattle.vm_field.specs.Limbs.{list_of}
 use Rattle.gadget_limbs.specs.Number.{number_of}
 
--- columns of a row of elements are elements
-pub limbs_at_below : (row : List ℕ) (at : ℕ) → AllBelow row → LimbsBelow (limbs_at row at)
-unfolding limbs_at
-limbs_at_below row at h = record { x0 = below_at row at h; x1 = below_at row _ h; x2 = below_at row _ h; x3 = below_at row _ h }
-
--- and so are bytes
+-- bytes are elements
 pub bytes_below : (xs : List ℕ) → IsBytes xs → AllBelow xs
 bytes_below xs h = all_weaker (λ x. x < 256) (λ x. x < 2013265921) (λ x b. omega arith) xs h
 

@@ -44,7 +44,7 @@ mixed_and : (a b c x n : ℕ) → x < 256 → n < 256 → b + c ≡ x + 2 * n �
 unfolding mixed
 mixed_and a b c x n p q e f = omega arith
 
-and_of_8 : (b c : ℕ) → b < 256 → c < 256 → bit_and b c < 256
+pub and_of_8 : (b c : ℕ) → b < 256 → c < 256 → bit_and b c < 256
 and_of_8 b c p q = omega (arith, and_le_l b c)
 
 xor_row : (x y z b c : ℕ) → x ≡ b → y ≡ c → z ≡ bit_xor b c → b < 256 → c < 256 → IsXorRow (x ∷ y ∷ z ∷ [])

@@ -1,7 +1,7 @@
 -- The lookups of a word's limbs say that each limb is right, and bytes by a bitwise function make that function of the words.
-use Rattle.std.proofs.Common.{◌≡◌, ◌≢◌, ℕ, ◌<◌, ◌↔◌, List, [], ◌∷◌, bit_xor, bit_or, bit_and, refl, sym, ap, ◌∙◌, arith}
+use Rattle.std.proofs.Common.{◌≡◌, ◌≢◌, ℕ, ◌<◌, ◌↔◌, [], ◌∷◌, bit_xor, bit_or, bit_and, refl, sym, ap, ◌∙◌, arith}
 use Rattle.std.specs.List.{AllByRecursion}
-use Rattle.std.proofs.lemmas.Nat.{xor_of_8, or_of_8, and_le_l}
+use Rattle.std.proofs.lemmas.Nat.{xor_of_8, or_of_8}
 use Rattle.vm_field.specs.Field.{modulus}
 use Rattle.vm_field.specs.declared.limbs.Limbs.{Limbs}
 use Rattle.vm_field.specs.Limbs.{list_of, LimbsBelow}
@@ -15,7 +15,7 @@ use Rattle.gadget_limbs.specs.Lookup.{looked_up, lookup_lines}
 use Rattle.gadget_limbs.specs.Laws.{flags_of}
 use Rattle.gadget_limbs.proofs.LimbsLaws.{limbs_of-word}
 use Rattle.gadget_limbs.proofs.BitLaws.{WordByBytes, xor_word, or_word, and_word}
-use Rattle.gadget_limbs.proofs.LookupLaws.{right_limb}
+use Rattle.gadget_limbs.proofs.LookupLaws.{right_limb, and_of_8}
 
 -- of three words, limb by limb
 abbrev pub EachLimb : (ℕ → ℕ → ℕ → Type 0) → Limbs ℕ → Limbs ℕ → Limbs ℕ → Type 0
@@ -75,9 +75,6 @@ word_bits f h a b c p q e =
     let word = h.word b.x0 b.x1 b.x2 b.x3 c.x0 c.x1 c.x2 c.x3 p.0 p.1.0 p.1.1.0 p.1.1.1.0 q.0 q.1.0 q.1.1.0 q.1.1.1.0 in
     let all = e ∙ ap limbs_of word ∙ limbs in
     (cc, cc, cc, cc)
-
-and_of_8 : (b c : ℕ) → b < 256 → c < 256 → bit_and b c < 256
-and_of_8 b c p q = omega (arith, and_le_l b c)
 
 pub is_xor : IsBitwise bit_xor
 is_xor = record { byte = xor_of_8; word = xor_word }

@@ -11,7 +11,7 @@ use Rattle.gadget_limbs.specs.Lookup.{looked_up}
 use Rattle.air_core.specs.Ring.{field}
 
 -- three numbers of equally many limbs, each a byte
-pub record Bytes (xs ys zs : List ℕ) : Type 0 where
+pub record AreBytes (xs ys zs : List ℕ) : Type 0 where
   pub left_long : length xs ≡ length zs
   pub right_long : length ys ≡ length zs
   pub left : IsBytes xs
@@ -23,12 +23,12 @@ abbrev pub AddUp : ℕ → List ℕ → List ℕ → List ℕ → ℕ → Type 0
 AddUp k xs ys zs out = number_of xs + number_of ys + k ≡ number_of zs + 256 ^ length zs * out
 
 abbrev pub LimbsThatHoldAddUp : Type 0
-LimbsThatHoldAddUp = (xs ys zs : List ℕ) (k : ℕ) → Bytes xs ys zs → k ≤ 1 → AllZero (sum_constraints field 1 k xs ys zs)
+LimbsThatHoldAddUp = (xs ys zs : List ℕ) (k : ℕ) → AreBytes xs ys zs → k ≤ 1 → AllZero (sum_constraints field 1 k xs ys zs)
     → (out : ℕ) × (out ≤ 1) × AddUp k xs ys zs out
 
 abbrev pub LimbsThatAddUpHold : Type 0
 LimbsThatAddUpHold = (gate k : ℕ) (xs ys zs : List ℕ)
-    → ((out : ℕ) → Bytes xs ys zs → k ≤ 1 → AddUp k xs ys zs out → AllZero (sum_constraints field gate k xs ys zs))
+    → ((out : ℕ) → AreBytes xs ys zs → k ≤ 1 → AddUp k xs ys zs out → AllZero (sum_constraints field gate k xs ys zs))
     × (gate ≡ 0 → AllZero (sum_constraints field gate k xs ys zs))
 
 -- the flags of a valid row

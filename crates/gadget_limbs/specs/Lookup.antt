@@ -1,6 +1,6 @@
 -- What is looked up in the xor table of one limb of a result. A sum or a difference looks up its own limb
 -- twice, so that it is a byte; a bitwise operation looks up the limbs of its words, and their xor by the result.
-use Rattle.std.specs.Prelude.{ℕ, List, [], ◌∷◌}
+use Rattle.std.specs.Prelude.{List, [], ◌∷◌}
 use Rattle.vm_field.specs.declared.limbs.Limbs.{Limbs}
 use Rattle.air_core.specs.declared.bus.TheConstants.{XOR}
 use Rattle.air_core.specs.declared.event.Side.TheVariants.{Send}

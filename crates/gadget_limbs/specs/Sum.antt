@@ -1,5 +1,5 @@
 -- ADD: the sum of two numbers by their limbs, as constraints on field elements.
-use Rattle.std.specs.Prelude.{ℕ, List, [], ◌∷◌}
+use Rattle.std.specs.Prelude.{List, [], ◌∷◌}
 use Rattle.air_core.specs.Ring.{Ring}
 use Rattle.air_core.specs.First.{bit}
 

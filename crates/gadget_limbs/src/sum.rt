@@ -35,6 +35,9 @@ pub fn first_broken<const N: usize>(
     requires { from + N < 2 ^ 32 }
     ensures { result ≡ first_from from (sum_constraints field gate 0 left.now right.now sum.now) }
 {
+    if gate == Fe::ZERO {
+        return None;
+    }
     let mut carry = Fe::ZERO;
     for i in 0..N {
         carry = carry_out(left[i], right[i], carry, sum[i]);

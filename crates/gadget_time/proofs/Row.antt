@@ -52,7 +52,7 @@ module _ (f : Form) (row flags rest : List ℕ) (pc time : ℕ)
 
   pub first_by_parts : (i j n : ℕ) → length flags + 1 ≡ i → i + n ≡ j → length (f.parts.constraints (parts_of pc time flags rest)) ≡ n
       → or_else (first_from 0 (flag_constraints field flags)) (or_else (first_from i (f.parts.constraints (parts_of pc time flags rest)))
-          (first_from j (map (touch_constraint field time) (f.parts.touches (parts_of pc time flags rest))))) ≡ first_from 0 (form_constraints field f.parts (columns f row))
+      (first_from j (map (touch_constraint field time) (f.parts.touches (parts_of pc time flags rest))))) ≡ first_from 0 (form_constraints field f.parts (columns f row))
   unfolding form_constraints
   first_by_parts i j n p q many =
       let c = parts_of pc time flags rest in

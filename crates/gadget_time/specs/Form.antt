@@ -87,8 +87,8 @@ abbrev pub filled_columns : Form → StepRecord → Columns ℕ
 filled_columns f done = parts_of done.instr.pc done.time (one_hot (length f.opcodes) (f.place done)) (f.filled done)
 
 -- and the row of columns
-abbrev pub row_of : Columns ℕ → List ℕ
-row_of c = c.pc ∷ c.time ∷ (c.flags ++ c.rest)
+abbrev pub row_of_columns : Columns ℕ → List ℕ
+row_of_columns c = c.pc ∷ c.time ∷ (c.flags ++ c.rest)
 
 -- columns of zeros
 abbrev pub no_columns : Form → Columns ℕ
@@ -107,7 +107,7 @@ form_sheet f hi = record {
   alone = f.alone;
   constraints = λ row. form_constraints field f.parts (columns f row);
   lines = λ row. told_lines field hi (told_by f (columns f row));
-  filled = λ done place. row_of (filled_columns f done);
+  filled = λ done place. row_of_columns (filled_columns f done);
 }
 
 -- The same of expressions over the columns: at every row they have the values of the sheet.

@@ -54,7 +54,7 @@ pub record IsAt (f : Form) (k : ℕ) (c : Columns ℕ) : Type 0 where
   pub time_below : c.time < modulus
 
 -- its constraints are 0, and its lookups good
-pub record Holds (f : Form) (c : Columns ℕ) : Type 0 where
+pub record FormHolds (f : Form) (c : Columns ℕ) : Type 0 where
   pub zero : AllZero (f.parts.constraints c)
   pub good : AllByRecursion (λ e. e.count ≢ 0 → GoodEvent e) (f.parts.others c)
 
@@ -77,7 +77,7 @@ pub record TellsDone (f : Form) (hi : ℕ) (done : StepRecord) : Type 0 where
   pub opcode : slice_index f.opcodes (f.place done) ≡ done.instr.op
   pub rest_long : length (f.filled done) ≡ f.width
   pub rest_below : AllBelow (f.filled done)
-  pub holds : Holds f (filled_columns f done)
+  pub holds : FormHolds f (filled_columns f done)
   pub others_small : AllByRecursion (λ e. e.count ≤ 1) (f.parts.others (filled_columns f done))
   pub next : f.parts.next (filled_columns f done) ≡ done.next
   pub numbers : done.instr.pc ∷ done.instr.op ∷ f.parts.numbers (filled_columns f done) ≡ numbers_of done.instr
@@ -87,8 +87,8 @@ pub record TellsDone (f : Form) (hi : ℕ) (done : StepRecord) : Type 0 where
 
 pub record FormLaws (f : Form) : Type 0 where
   pub bounds : FormBounds f
-  pub tells : (k : ℕ) (c : Columns ℕ) → IsAt f k c → Holds f c → InstructionAt f k c → Tells f c
-  pub means : f.alone ≡ true → (k : ℕ) (c : Columns ℕ) (at : IsAt f k c) (holds : Holds f c) (i : InstructionAt f k c)
+  pub tells : (k : ℕ) (c : Columns ℕ) → IsAt f k c → FormHolds f c → InstructionAt f k c → Tells f c
+  pub means : f.alone ≡ true → (k : ℕ) (c : Columns ℕ) (at : IsAt f k c) (holds : FormHolds f c) (i : InstructionAt f k c)
       → AllByRecursion (λ a. IsBytes a.old) (tells k c at holds i).accesses → IsMeaning i.instr (tells k c at holds i).accesses (f.parts.next c)
   pub fills : (hi : ℕ) (done : StepRecord) → hi ≤ 13 → Fillable (16 + hi) done → owns_of f done.instr.op ≡ true → TellsDone f hi done
 

@@ -2,4 +2,5 @@ pub mod Told
 pub mod Laws
 pub mod Form
 pub mod FormLaws
+pub mod Nop
 pub mod lemmas

@@ -3,3 +3,4 @@ pub mod Filled
 pub mod FormSound
 pub mod FormBounds
 pub mod FormComplete
+pub mod NopLaws

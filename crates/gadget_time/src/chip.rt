@@ -8,11 +8,12 @@ ghost use Rattle.air_core.specs.Ring.{field};
 ghost use Rattle.air_core.specs.Sheet.{AllZero, counted};
 ghost use Rattle.air_core.specs.Sink.{Handed, HandedSome};
 ghost use Rattle.gadget_time.specs.Told.{told_lines};
-ghost use Rattle.gadget_time.specs.Form.{columns, told_by, form_constraints, owns_of, row_of, filled_columns, parts_of};
+ghost use Rattle.gadget_time.specs.Form.{columns, told_by, form_constraints, owns_of, row_of_columns, filled_columns, parts_of};
 
 use crate::TableForm;
 use air_core::{
-    Chip, EventSink, HintWord, OutOfMemory, element, emit_path, first, first_nonzero, flag_sum, flags_broken,
+    Chip, EventSink, HintWord, OutOfMemory, element, emit_path, first, first_nonzero, flag_sum,
+    flags_broken,
 };
 use std::marker::PhantomData;
 use vm_field::Fe;
@@ -140,7 +141,7 @@ fn fill<T: TableForm>(done: &StepRecord, row: &mut [Fe])
     requires time_low { done.now.time < modulus }
     requires owned { owns_of T.form done.now.instr.op ≡ true }
     requires place { T.form.place done.now < length T.form.opcodes }
-    ensures { row.new ≡ row_of (filled_columns T.form done.now) }
+    ensures { row.new ≡ row_of_columns (filled_columns T.form done.now) }
 {
     put_head(row, element(done.instr.pc), element(done.time));
     put_flags(row, rest_from::<T>(), T::place(done));

@@ -7,6 +7,7 @@ ghost use Rattle.air_core.specs.Sheet.{counted};
 ghost use Rattle.air_core.specs.Sink.{Handed, HandedSome};
 ghost use Rattle.gadget_time.specs.Told.{touch_constraint, touch_lines, touches_lines};
 
+use crate::touch::block;
 use crate::{Touch, touch_constraint};
 use air_core::{EventSink, OutOfMemory, bus, emit_received, emit_sent};
 use vm_field::Fe;
@@ -26,35 +27,11 @@ pub fn emit_touch<S: EventSink>(
     ensures err { OnErr result (HandedSome S.holds S.room sink.old sink.new (counted (touch_lines field hi time touch.now))) }
 {
     let count = touch.count;
-    let (space, pointer, old, new) = (touch.space, touch.pointer, touch.old, touch.new);
-    emit_received(
-        bus::MEMORY,
-        count,
-        &[
-            space,
-            pointer,
-            old.x0,
-            old.x1,
-            old.x2,
-            old.x3,
-            touch.gap.before,
-        ],
-        sink,
-    )?;
-    emit_sent(
-        bus::MEMORY,
-        count,
-        &[
-            space,
-            pointer,
-            new.x0,
-            new.x1,
-            new.x2,
-            new.x3,
-            time.add(touch.slot),
-        ],
-        sink,
-    )?;
+    let at = time.add(touch.slot);
+    let taken = block(touch.space, touch.pointer, touch.old, touch.gap.before);
+    let put = block(touch.space, touch.pointer, touch.new, at);
+    emit_received(bus::MEMORY, count, &taken, sink)?;
+    emit_sent(bus::MEMORY, count, &put, sink)?;
     emit_sent(bus::RANGE, count, &[touch.gap.lo, Fe::of_u16(16)], sink)?;
     emit_sent(
         bus::RANGE,

@@ -1,6 +1,8 @@
 //! What rows of instruction tables say. Each law is what a function with an empty body ensures.
 
 ghost use Rattle.gadget_time.specs.Laws.{ASilentRowSaysNothing, AValidRowHasAnInstruction, AValidRowIsAStep, AFilledRowSaysItsRecord, ARowKeepsToItsBuses, ARowIsNoHint, AccessesAreApart};
+ghost use Rattle.gadget_time.specs.FormLaws.{AFormIsATable};
+ghost use Rattle.gadget_time.specs.Nop.{NopIsFormal};
 
 /// Law: a row whose counts are all 0 says nothing.
 pub fn a_silent_row_says_nothing()
@@ -35,4 +37,14 @@ pub fn a_row_is_no_hint()
 /// Law: the accesses of a step are at different times, modulo p too.
 pub fn accesses_are_apart()
     ensures { AccessesAreApart }
+{}
+
+/// Law: a form with its laws is a table with all laws of a chip.
+pub fn a_form_is_a_table()
+    ensures { AFormIsATable }
+{}
+
+/// Law: the no-operation's expressions over the columns have the values of its constraints and events.
+pub fn the_no_operation_is_formal()
+    ensures { NopIsFormal }
 {}

@@ -6,6 +6,7 @@ mod chip;
 mod emission;
 mod form;
 pub mod laws;
+mod nop;
 #[cfg(test)]
 mod tests;
 mod touch;
@@ -13,4 +14,5 @@ mod touch;
 pub use chip::FormChip;
 pub use emission::{emit_touch, emit_touches, touches_broken};
 pub use form::TableForm;
+pub use nop::{Nop, NopAt, NopForm};
 pub use touch::{Gap, Touch, gap_between, touch_constraint};

@@ -1,7 +1,7 @@
 //! One access of a row.
 
 ghost use Rattle.air_core.specs.Ring.{field};
-ghost use Rattle.std.specs.Prelude.{◌≡◌, ℕ, ◌+◌, ◌<◌, ◌≤◌};
+ghost use Rattle.std.specs.Prelude.{◌≡◌, [], ◌∷◌, ℕ, ◌+◌, ◌<◌, ◌≤◌};
 ghost use Rattle.gadget_time.specs.Told.{time_constraint, touch_constraint, gap_filled};
 
 use air_core::element;
@@ -33,8 +33,18 @@ pub struct Touch<F = Fe> {
 fn time_constraint(count: Fe, time: Fe, gap: &Gap) -> Fe
     ensures { result ≡ time_constraint field count time gap.now.before gap.now.lo gap.now.hi }
 {
+    if count == Fe::ZERO {
+        return Fe::ZERO;
+    }
     let upper = element(65536).mul(gap.hi);
     count.mul(time.sub(gap.before).sub(Fe::ONE).sub(gap.lo).sub(upper))
+}
+
+/// A block's word at a time, as the memory bus has it.
+pub fn block(space: Fe, pointer: Fe, word: Limbs, time: Fe) -> [Fe; 7]
+    ensures { result ≡ space ∷ pointer ∷ word.x0 ∷ word.x1 ∷ word.x2 ∷ word.x3 ∷ time ∷ [] }
+{
+    [space, pointer, word.x0, word.x1, word.x2, word.x3, time]
 }
 
 /// The constraint of an access of the row of this time.

@@ -2,6 +2,7 @@
 -- number of rows has one row.
 use Rattle.std.specs.Prelude.{◌≡◌, ℕ, ◌+◌, ◌*◌, ◌-◌, ◌^◌, ◌≤◌, nat_eq, if◌then◌else◌, List}
 use Rattle.air_core.specs.Lookups.{IsXorRow, IsRangeRow, IsConstantRow}
+use Rattle.air_core.specs.declared.bus.TheConstants.{XOR, RANGE, SHA_CONSTANTS}
 
 -- the row (x, y, x xor y) at place 256x + y
 pub record XorAt (place : ℕ) (tuple : List ℕ) : Type 0 where
@@ -20,20 +21,20 @@ pub record ConstantAt (place : ℕ) (tuple : List ℕ) : Type 0 where
 
 -- the row at a place of the table of a bus
 pub record IsRowAt (bus place : ℕ) (tuple : List ℕ) : Type 0 where
-  pub low : 3 ≤ bus
-  pub high : bus ≤ 5
-  pub xor : bus ≡ 3 → XorAt place tuple
-  pub range : bus ≡ 4 → RangeAt place tuple
-  pub constant : bus ≡ 5 → ConstantAt place tuple
+  pub low : XOR ≤ bus
+  pub high : bus ≤ SHA_CONSTANTS
+  pub xor : bus ≡ XOR → XorAt place tuple
+  pub range : bus ≡ RANGE → RangeAt place tuple
+  pub constant : bus ≡ SHA_CONSTANTS → ConstantAt place tuple
 
 -- a row of the table of a bus
 pub record IsRowOf (bus : ℕ) (tuple : List ℕ) : Type 0 where
-  pub low : 3 ≤ bus
-  pub high : bus ≤ 5
-  pub xor : bus ≡ 3 → IsXorRow tuple
-  pub range : bus ≡ 4 → IsRangeRow tuple
-  pub constant : bus ≡ 5 → IsConstantRow tuple
+  pub low : XOR ≤ bus
+  pub high : bus ≤ SHA_CONSTANTS
+  pub xor : bus ≡ XOR → IsXorRow tuple
+  pub range : bus ≡ RANGE → IsRangeRow tuple
+  pub constant : bus ≡ SHA_CONSTANTS → IsConstantRow tuple
 
 -- how many rows the table of a bus has
 abbrev pub rows_of : ℕ → ℕ
-rows_of bus = if nat_eq bus 3 then 65536 else if nat_eq bus 4 then 131071 else if nat_eq bus 5 then 64 else 0
+rows_of bus = if nat_eq bus XOR then 65536 else if nat_eq bus RANGE then 131071 else if nat_eq bus SHA_CONSTANTS then 64 else 0

@@ -2,6 +2,7 @@
 use Rattle.std.specs.Prelude.{ℕ, zero, suc, ◌+◌, ◌-◌, ◌/◌, ◌%◌, ◌^◌, nat_eq, nat_le, nat_lt, if◌then◌else◌, List, [], ◌∷◌, Option, Some, None, bit_xor}
 use Rattle.sha_words.specs.Sha256.{round_constant}
 use Rattle.lookup_tables.specs.Places.{rows_of}
+use Rattle.air_core.specs.declared.bus.TheConstants.{XOR, RANGE}
 
 -- the greatest exponent up to this one whose power of two is at most the number, and 0 where there is none
 abbrev pub exponent_up_to : ℕ → ℕ → ℕ
@@ -21,7 +22,7 @@ abbrev pub constant_row_of : ℕ → List ℕ
 constant_row_of place = place ∷ (round_constant place % 65536) ∷ (round_constant place / 65536) ∷ []
 
 abbrev pub row_below : ℕ → ℕ → List ℕ
-row_below bus place = if nat_eq bus 3 then xor_row_of place else if nat_eq bus 4 then range_row_of place else constant_row_of place
+row_below bus place = if nat_eq bus XOR then xor_row_of place else if nat_eq bus RANGE then range_row_of place else constant_row_of place
 
 -- the row at a place of the table of a bus, where there is one
 unfoldable pub row_at : ℕ → ℕ → Option (List ℕ)

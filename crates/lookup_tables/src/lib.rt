@@ -10,16 +10,8 @@ pub mod laws;
 mod tests;
 
 use air_core::Tuple;
+use air_core::bus::{RANGE, SHA_CONSTANTS, XOR};
 use sha_words::ROUND_CONSTANTS;
-
-/// The bus of the xor table: two bytes and their xor.
-pub const XOR: u8 = 3;
-
-/// The bus of the range table: a number below a power of two, and the exponent.
-pub const RANGE: u8 = 4;
-
-/// The bus of the constants of SHA-256: a round, and the low and the high half of its constant.
-pub const CONSTANTS: u8 = 5;
 
 /// The row at a place of the table of a bus.
 pub fn tuple_at(bus: u8, place: u32) -> Option<Tuple>
@@ -28,7 +20,7 @@ pub fn tuple_at(bus: u8, place: u32) -> Option<Tuple>
     match bus {
         XOR => xor_at(place),
         RANGE => range_at(place),
-        CONSTANTS => constant_at(place),
+        SHA_CONSTANTS => constant_at(place),
         _ => None,
     }
 }
@@ -40,7 +32,7 @@ pub fn count_place(bus: u8, tuple: &Tuple) -> Option<u32>
     match bus {
         XOR => xor_place(tuple.as_slice()),
         RANGE => range_place(tuple.as_slice()),
-        CONSTANTS => constant_place(tuple),
+        SHA_CONSTANTS => constant_place(tuple),
         _ => None,
     }
 }

@@ -16,15 +16,15 @@ const ROWS: [(u8, &'static [u32], u32); 12] = [
     (RANGE, &[0, 16], 65_535),
     (RANGE, &[2, 16], 65_537),
     (RANGE, &[65_535, 16], 131_070),
-    (CONSTANTS, &[0, 12_184, 17_034], 0),
-    (CONSTANTS, &[63, 30_962, 50_801], 63),
+    (SHA_CONSTANTS, &[0, 12_184, 17_034], 0),
+    (SHA_CONSTANTS, &[63, 30_962, 50_801], 63),
 ];
 
 /// Buses and places behind the last, and buses without a table.
 const NO_PLACES: [(u8, u32); 6] = [
     (XOR, 65_536),
     (RANGE, 131_071),
-    (CONSTANTS, 64),
+    (SHA_CONSTANTS, 64),
     (XOR, u32::MAX),
     (2, 0),
     (6, 0),
@@ -41,9 +41,9 @@ const NO_ROWS: [(u8, &'static [u32]); 14] = [
     (XOR, &[256, 0, 256]),
     (XOR, &[0, 256, 256]),
     (XOR, &[0, 0]),
-    (CONSTANTS, &[0, 12_185, 17_034]),
-    (CONSTANTS, &[0, 17_034, 12_184]),
-    (CONSTANTS, &[64, 0, 0]),
+    (SHA_CONSTANTS, &[0, 12_185, 17_034]),
+    (SHA_CONSTANTS, &[0, 17_034, 12_184]),
+    (SHA_CONSTANTS, &[64, 0, 0]),
     (2, &[0, 0, 0]),
     (6, &[]),
 ];

@@ -44,17 +44,17 @@ second_lines =
     ∷ (access 5 7 0 7 1 0 ++ (access 5 7 1 7 2 0 ++ (access 6 0 0 14 3 2 ++ limbs 14)))
 
 pub first_says : row_events (alu_sheet 8) first_row ≡ first_lines
-unfolding columns_by path_lines touch_lines regs_of first_touch second_touch third_touch regs_numbers list_of choose mixed looked_up
+unfolding columns_by regs_of path_lines touch_lines first_touch second_touch third_touch regs_numbers list_of choose mixed looked_up
 first_says = refl
 
 pub second_says : row_events (alu_sheet 8) second_row ≡ second_lines
-unfolding columns_by path_lines touch_lines regs_of first_touch second_touch third_touch regs_numbers list_of choose mixed looked_up
+unfolding columns_by regs_of path_lines touch_lines first_touch second_touch third_touch regs_numbers list_of choose mixed looked_up
 second_says = refl
 
 pub first_holds : RowHolds (alu_sheet 8) first_row
-unfolding columns_by form_constraints flag_constraints bit immediate_constraints gated_difference sum_constraints carry_out gated_bit touch_constraint time_constraint regs_of first_touch second_touch third_touch list_of each_zero
+unfolding columns_by form_constraints regs_of flag_constraints bit immediate_constraints gated_difference sum_constraints carry_out gated_bit touch_constraint time_constraint first_touch second_touch third_touch list_of each_zero
 first_holds = all_zero ((alu_sheet 8).constraints first_row) refl
 
 pub second_holds : RowHolds (alu_sheet 8) second_row
-unfolding columns_by form_constraints flag_constraints bit immediate_constraints gated_difference sum_constraints carry_out gated_bit touch_constraint time_constraint regs_of first_touch second_touch third_touch list_of each_zero
+unfolding columns_by form_constraints regs_of flag_constraints bit immediate_constraints gated_difference sum_constraints carry_out gated_bit touch_constraint time_constraint first_touch second_touch third_touch list_of each_zero
 second_holds = all_zero ((alu_sheet 8).constraints second_row) refl

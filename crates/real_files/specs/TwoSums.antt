@@ -8,7 +8,7 @@ use Rattle.vm_trace.specs.declared.page.Touched.{Touched}
 use Rattle.vm_trace.specs.File.{Segment, File}
 use Rattle.vm_transpile.specs.Program.{program_of}
 use Rattle.air_core.specs.Join.{join, single}
-use Rattle.air_core.specs.Nop.{nop_sheet}
+use Rattle.gadget_time.specs.Nop.{nop_sheet}
 use Rattle.air_core.specs.System.{System}
 use Rattle.chip_alu.specs.Alu.{alu_sheet}
 use Rattle.page_tree.specs.Tree.{Leaves, root}

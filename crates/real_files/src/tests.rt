@@ -4,9 +4,10 @@ mod three_segments;
 
 ghost use Rattle.std.specs.Prelude.{◌<◌, ◌^◌, length};
 
-use air_core::{Both, Event, EventList, Extension, Nop, Side, Single, Tuple, bus, hand_counted};
+use air_core::{Both, Event, EventList, Extension, Side, Single, Tuple, bus, hand_counted};
 use bus_core::Balance;
 use chip_alu::Alu;
+use gadget_time::Nop;
 use elf_image::read_image;
 use hex::FromHex;
 use lookup_tables::tuple_at;

@@ -11,7 +11,7 @@ use Rattle.vm_host.specs.Memory.{by_slot}
 use Rattle.vm_host.specs.State.{HostState, Input, after_these}
 use Rattle.vm_host.specs.ReadUpTo.{Took}
 use Rattle.vm_host.specs.Calls.{AtEnd, Rose}
-use Rattle.air_core.specs.Nop.{nop_sheet}
+use Rattle.gadget_time.specs.Nop.{nop_sheet}
 use Rattle.elf_image.specs.Loaded.{Loaded}
 use Rattle.vm_checker.specs.declared.Accepted.{Accepted as Acceptance}
 use Rattle.vm_checker.specs.declared.Verdict.{Verdict}

@@ -1,7 +1,7 @@
 -- Verdicts on table files, as answers.
 use Rattle.std.proofs.Common.{◌≡◌, ℕ, List, sym, ap, ◌∙◌}
 use Rattle.elf_image.specs.Loaded.{Loaded}
-use Rattle.air_core.specs.Nop.{nop_sheet}
+use Rattle.gadget_time.specs.Nop.{nop_sheet}
 use Rattle.vm_checker.proofs.Verdicts.{accepted_alone, verdict_is_one}
 use Rattle.vm_tool.specs.declared.answer.Answer.{Answer}
 use Rattle.vm_tool.specs.CheckCommand.{answer_of_verdict, CheckAnswers, CheckSucceeds}

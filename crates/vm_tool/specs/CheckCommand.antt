@@ -1,7 +1,7 @@
 -- The answer to `check`.
 use Rattle.std.specs.Prelude.{◌≡◌, ℕ, List, length}
 use Rattle.elf_image.specs.Loaded.{Loaded}
-use Rattle.air_core.specs.Nop.{nop_sheet}
+use Rattle.gadget_time.specs.Nop.{nop_sheet}
 use Rattle.table_format.specs.File.{FileValue, IsFile, spelling}
 use Rattle.vm_transpile.specs.Program.{program_of}
 use Rattle.vm_checker.specs.declared.Verdict.{Verdict}

@@ -9,7 +9,7 @@ use Rattle.vm_host.specs.Calls.{Rose}
 use Rattle.elf_image.specs.Loaded.{Loaded}
 use Rattle.elf_image.specs.Image.{HasImage}
 use Rattle.rv_run.specs.Run.{Ends}
-use Rattle.air_core.specs.Nop.{nop_sheet}
+use Rattle.gadget_time.specs.Nop.{nop_sheet}
 use Rattle.table_format.specs.File.{FileValue, IsFile, spelling}
 use Rattle.vm_transpile.specs.Program.{program_of}
 use Rattle.vm_checker.specs.Accepts.{Accepts, valid_rows}

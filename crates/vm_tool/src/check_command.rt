@@ -6,7 +6,7 @@ ghost use Rattle.vm_tool.specs.Outcome.{Finds, halt_of};
 
 use crate::answer::{Answer, Halt};
 use crate::inputs::{open, read_elf};
-use air_core::Nop;
+use gadget_time::Nop;
 use std::alloc::Global;
 use vm_checker::{Verdict, check as check_tables};
 use vm_host::{Host, Slot};

@@ -25,7 +25,7 @@ use Rattle.air_core.specs.lemmas.Cells.{length-cells, cells_back, cells_of_zeros
 use Rattle.air_core.specs.lemmas.OneHot.{of_owned, zeros_hold, sum_one, length-one_hot}
 use Rattle.gadget_time.specs.Told.{touch_constraint, time_constraint, MadeByAll}
 use Rattle.gadget_time.specs.Form.{Columns, parts_of, valid_of, owns_of, filled_columns, no_columns}
-use Rattle.gadget_time.specs.FormLaws.{FormLaws, FormBounds, IsOther, IsAt, Holds, TellsDone, NoHints}
+use Rattle.gadget_time.specs.FormLaws.{FormLaws, FormBounds, IsOther, IsAt, FormHolds, TellsDone, NoHints}
 use Rattle.adapter_regs.specs.declared.regs.Regs.{Regs}
 use Rattle.adapter_regs.specs.Regs.{regs_of, words_from, limbs_of_zero, regs_touches, first_touch, second_touch, third_touch, regs_numbers, immediate_constraints, regs_filled, new_filled, regs_cells, time_cells}
 use Rattle.adapter_regs.specs.Core.{Core, CoreLaws, Operands, operands, operands_of, registers, regs_form, IsLookup, IsCoreAt, IsResult, IsResultOf, IsPlaced, IsGoodCore, no_operands, place_filled, own_filled, ACoreIsAForm}
@@ -42,9 +42,19 @@ each P Q f xs h = all_weaker P Q f xs h
 
 abbrev no_regs : Regs ℕ
 no_regs = record {
-  pc = 0; time = 0; rd = 0; rs1 = 0; rs2 = 0; use_imm = 0;
-  imm = limbs_of_zero field; left = limbs_of_zero field; right = limbs_of_zero field; old = limbs_of_zero field;
-  first = record { before = 0; lo = 0; hi = 0 }; second = record { before = 0; lo = 0; hi = 0 }; third = record { before = 0; lo = 0; hi = 0 };
+  pc = 0;
+  time = 0;
+  rd = 0;
+  rs1 = 0;
+  rs2 = 0;
+  use_imm = 0;
+  imm = limbs_of_zero field;
+  left = limbs_of_zero field;
+  right = limbs_of_zero field;
+  old = limbs_of_zero field;
+  first = record { before = 0; lo = 0; hi = 0 };
+  second = record { before = 0; lo = 0; hi = 0 };
+  third = record { before = 0; lo = 0; hi = 0 };
 }
 
 zero_regs : (b immediates : Bool) → immediates ≡ b → (own n : ℕ) → regs_of field immediates own 0 0 (replicate n 0) ≡ no_regs
@@ -202,7 +212,7 @@ module _ (core : Core) (laws : CoreLaws core) where
       let good = laws.complete op o (new_filled done) at cols.own.word placed.opcode refl in
       let res : IsResult op o (core.parts.new o) = subst (λ (x : ℕ). IsResult x o (core.parts.new o)) placed.opcode (laws.sound (place_filled core done) o at good.zero good.good) in
       let new : new_filled done ≡ core.parts.new o = limbs_same (new_filled done) (core.parts.new o)
-          (cols.own.word.is ∙ sym (sym (limbs_of-word (list_of (core.parts.new o)) (record { four = length-list_of (core.parts.new o); bytes = res.bytes })) ∙ ap limbs_of res.result_is)) in
+      (cols.own.word.is ∙ sym (sym (limbs_of-word (list_of (core.parts.new o)) (record { four = length-list_of (core.parts.new o); bytes = res.bytes })) ∙ ap limbs_of res.result_is)) in
       record {
         below = placed.below;
         opcode = placed.opcode;

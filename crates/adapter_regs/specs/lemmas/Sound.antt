@@ -25,7 +25,7 @@ use Rattle.gadget_limbs.proofs.LimbsLaws.{limbs_of-word}
 use Rattle.gadget_time.specs.Told.{touched_of}
 use Rattle.gadget_time.specs.Laws.{CountsSmall}
 use Rattle.gadget_time.specs.Form.{Columns, valid_of}
-use Rattle.gadget_time.specs.FormLaws.{IsAt, Holds, InstructionAt, Tells}
+use Rattle.gadget_time.specs.FormLaws.{IsAt, FormHolds, InstructionAt, Tells}
 use Rattle.adapter_regs.specs.declared.regs.Regs.{Regs}
 use Rattle.adapter_regs.specs.Regs.{regs_of, regs_touches, first_touch, second_touch, third_touch, regs_numbers, immediate_constraints}
 use Rattle.adapter_regs.specs.Core.{Core, CoreLaws, Operands, IsCoreAt, IsResult, operands_of, registers, regs_form}
@@ -108,7 +108,6 @@ pointer x y e h = omega arith
 step_on : (x y : ℕ) → x ≡ y → y < 2 ^ 29 → field_add x 4 ≡ word_sum y 4
 step_on x y e h = omega arith
 
-
 cond_zero : (b : Bool) (xs ys : List ℕ) → b ≡ true → AllZero (cond b xs [] ++ ys) → AllZero xs
 cond_zero true xs ys e h = all_left (λ x. x ≡ 0) xs ys h
 cond_zero false xs ys e h = absurd (cc)
@@ -126,7 +125,7 @@ unfolding regs_of
 no_use immediates own pc time rest e = rw e refl
 
 -- An instruction's row, in the two forms.
-module _ (core : Core) (laws : CoreLaws core) (k : ℕ) (c : Columns ℕ) (at : IsAt (regs_form core) k c) (holds : Holds (regs_form core) c) (i : InstructionAt (regs_form core) k c) where
+module _ (core : Core) (laws : CoreLaws core) (k : ℕ) (c : Columns ℕ) (at : IsAt (regs_form core) k c) (holds : FormHolds (regs_form core) c) (i : InstructionAt (regs_form core) k c) where
   abbrev r : Regs ℕ
   r = registers field core.immediates core.own c
 

@@ -1,10 +1,10 @@
 -- Flags of which one is set, by its place: what the constraints of flags come to, for any number of them.
-use Rattle.std.proofs.Common.{◌≡◌, ℕ, zero, suc, Bool, true, false, ◌||◌, nat_eq, ◌+◌, ◌<◌, ◌≤◌, List, [], ◌∷◌, length, map, slice_index, replicate, refl, ap, inl, inr, ◌∙◌, sym, arith}
+use Rattle.std.proofs.Common.{◌≡◌, ℕ, zero, suc, Bool, true, false, ◌||◌, nat_eq, ◌<◌, List, [], ◌∷◌, length, map, slice_index, replicate, refl, ap, inl, inr, ◌∙◌, sym, arith}
 use Rattle.std.specs.List.{AllByRecursion}
-use Rattle.vm_field.specs.Field.{modulus, field_add, field_mul}
+use Rattle.vm_field.specs.Field.{field_add, field_mul}
 use Rattle.air_core.specs.First.{bit}
 use Rattle.air_core.specs.Sheet.{AllZero, AllBelow}
-use Rattle.air_core.specs.Flags.{OneHot, one_hot, place_of, sum_from, weighted_from, flag_constraints}
+use Rattle.air_core.specs.Flags.{OneHot, one_hot, opcode_place, sum_from, weighted_from, flag_constraints}
 use Rattle.air_core.specs.FlagLaws.{sum_none}
 use Rattle.std.specs.List.{list_any}
 use Rattle.std.proofs.lemmas.Bool.{eq-eqb, eqb-true}
@@ -82,7 +82,7 @@ bits_one zero k = tt
 bits_one (suc n) zero = (refl, bits_zeros n)
 bits_one (suc n) (suc k) = (refl, bits_one n k)
 
-bit_one : (bit field) 1 ≡ 0
+pub bit_one : bit field 1 ≡ 0
 unfolding bit
 bit_one = refl
 
@@ -99,7 +99,7 @@ one_hot_below zero k = tt
 one_hot_below (suc n) zero = (omega arith, zeros_below n)
 one_hot_below (suc n) (suc k) = (omega arith, one_hot_below n k)
 
-bit_none : (bit field) 0 ≡ 0
+pub bit_none : bit field 0 ≡ 0
 unfolding bit
 bit_none = refl
 
@@ -110,7 +110,7 @@ flags_zero n = all_append (λ x. x ≡ 0) _ _ (bits_zeros n) (rw (sum_none (repl
 
 -- The opcodes of a table, by their places.
 
-or_true : (a b : Bool) → b ≡ true → (a || b) ≡ true
+pub or_true : (a b : Bool) → b ≡ true → (a || b) ≡ true
 or_true true b h = refl
 or_true false b h = h
 
@@ -135,8 +135,8 @@ of_owned P (k ∷ ks) op all h = owned_by (nat_eq op k) (list_any (nat_eq op) ks
 
 -- the first place of an opcode
 pub record IsPlace (ks : List ℕ) (op : ℕ) : Type 0 where
-  pub below : place_of ks op < length ks
-  pub is : slice_index ks (place_of ks op) ≡ op
+  pub below : opcode_place ks op < length ks
+  pub is : slice_index ks (opcode_place ks op) ≡ op
 
 place_by : (k : ℕ) (ks : List ℕ) (op : ℕ) → (b : Bool) → nat_eq op k ≡ b → (list_any (nat_eq op) ks ≡ true → IsPlace ks op) → (b || list_any (nat_eq op) ks) ≡ true → IsPlace (k ∷ ks) op
 place_by k ks op true e rest h = record { below = rw e (omega arith); is = rw e (sym (eqb-true op k e)) }

@@ -11,7 +11,7 @@ use Rattle.vm_isa.specs.Words.{IsBytes}
 use Rattle.vm_isa.specs.Results.{alu}
 use Rattle.air_core.specs.declared.bus.TheConstants.{XOR}
 use Rattle.air_core.specs.First.{bit}
-use Rattle.air_core.specs.Flags.{one_hot, place_of}
+use Rattle.air_core.specs.Flags.{one_hot, opcode_place}
 use Rattle.air_core.specs.FlagLaws.{sum_none}
 use Rattle.air_core.specs.ListLemmas.{all_left, all_right, all_append, by_zero_test, zero_test, below_at}
 use Rattle.air_core.specs.Lookups.{GoodEvent}
@@ -149,10 +149,10 @@ zeros : AllZero (alu_core.parts.constraints (no_operands alu_core))
 unfolding sum_constraints carry_out gated_bit bit list_of limbs_from zero_test
 zeros = by_zero_test (alu_core.parts.constraints (no_operands alu_core)) refl
 
-complete : (op : ℕ) (o : Operands ℕ) (new : Limbs ℕ) → IsCoreAt alu_core (place_of alu_opcodes op) o → IsResultOf op o.left o.right new
-    → slice_index alu_opcodes (place_of alu_opcodes op) ≡ op → o.own ≡ list_of new → IsGoodCore alu_core o
+complete : (op : ℕ) (o : Operands ℕ) (new : Limbs ℕ) → IsCoreAt alu_core (opcode_place alu_opcodes op) o → IsResultOf op o.left o.right new
+    → slice_index alu_opcodes (opcode_place alu_opcodes op) ≡ op → o.own ≡ list_of new → IsGoodCore alu_core o
 complete op o new at word is filled =
-    complete_at o.flags o.own o.left o.right at.own_below at.left at.right (place_of alu_opcodes op) at.below at.flags
+    complete_at o.flags o.own o.left o.right at.own_below at.left at.right (opcode_place alu_opcodes op) at.below at.flags
     (list_of_result o.own at.own_long ∙ filled ∙ word.is ∙ ap (λ (x : ℕ). limbs_of (result x (word_of_limbs (list_of o.left)) (word_of_limbs (list_of o.right)))) (sym is))
 
 placed : (op : ℕ) (left right new : Limbs ℕ) → list_any (nat_eq op) alu_opcodes ≡ true → IsResultOf op left right new → IsPlaced alu_core op left right new

@@ -23,6 +23,7 @@ use Rattle.gadget_time.specs.Told.{Told, told_lines, told_front, touch_lines, to
 use Rattle.gadget_time.specs.Laws.{CountsSmall, TellsRecord, SaysRecord}
 use Rattle.gadget_time.specs.lemmas.ToldLaws.{told_says}
 use Rattle.air_core.specs.Ring.{field}
+use Rattle.air_core.specs.declared.bus.TheConstants.{EXECUTION, PROGRAM}
 
 -- One access.
 
@@ -166,7 +167,7 @@ told_good hi d is touches others =
 ends_at : (now time slots n : ℕ) → now ≡ time → slots ≡ n → time + n ≤ 2 ^ 29 → field_add now slots ≡ time + n
 ends_at now time slots n t s low = omega arith
 
-path_as : (a b c d e f g h : ℕ) → a ≡ e → b ≡ f → c ≡ g → d ≡ h → received 0 1 (a ∷ b ∷ []) ∷ sent 0 1 (c ∷ d ∷ []) ∷ [] ≡ received 0 1 (e ∷ f ∷ []) ∷ sent 0 1 (g ∷ h ∷ []) ∷ []
+path_as : (a b c d e f g h : ℕ) → a ≡ e → b ≡ f → c ≡ g → d ≡ h → received EXECUTION 1 (a ∷ b ∷ []) ∷ sent EXECUTION 1 (c ∷ d ∷ []) ∷ [] ≡ received EXECUTION 1 (e ∷ f ∷ []) ∷ sent EXECUTION 1 (g ∷ h ∷ []) ∷ []
 path_as a b c d e f g h p q r s = rw (p, q, r, s) refl
 
 -- a row whose accesses were filled from a record meets their constraints, and says the record
@@ -181,7 +182,7 @@ told_record hi done d sources top t =
       counts = told_counts hi d t.valid small t.others_small;
       recorded = record {
         path = says.path ∙ path_as d.pc d.time d.next (field_add d.time d.slots) done.instr.pc done.time done.next (done.time + slots_of done.instr.op) t.pc t.time t.next ends;
-        program = says.program ∙ ap (λ (xs : List ℕ). sent 1 1 xs ∷ []) t.numbers;
+        program = says.program ∙ ap (λ (xs : List ℕ). sent PROGRAM 1 xs ∷ []) t.numbers;
         memory = says.memory ∙ made_memory hi d.time d.touches sources top t.made_by ∙ ap (flat_map record_events) t.accesses;
       };
     }

@@ -16,18 +16,18 @@ use Rattle.air_core.specs.lemmas.OneHot.{sum_one, length-one_hot, one_hot_holds,
 use Rattle.air_core.specs.lemmas.Cells.{cells_back, cells_back_last}
 use Rattle.gadget_time.specs.Told.{Told, touch_constraint, told_lines}
 use Rattle.gadget_time.specs.Laws.{TellsRecord, SaysRecord}
-use Rattle.gadget_time.specs.Form.{Form, Columns, columns, columns_by, valid_of, op_of, told_by, form_constraints, form_sheet, owns_of, filled_columns, row_of}
+use Rattle.gadget_time.specs.Form.{Form, Columns, columns, columns_by, valid_of, op_of, told_by, form_constraints, form_sheet, owns_of, filled_columns, row_of_columns}
 use Rattle.gadget_time.specs.FormLaws.{FormLaws, TellsDone, FormTable, AFormIsATable}
 use Rattle.gadget_time.specs.lemmas.Filled.{told_record}
 use Rattle.gadget_time.specs.lemmas.FormSound.{op_at, off, form_sound, form_timed, form_no_hint}
 use Rattle.gadget_time.specs.lemmas.FormBounds.{form_fits, form_buses, form_quiet}
 
 -- a row of columns is read as these columns
-columns_back : (f : Form) (c : Columns ℕ) → length c.flags ≡ length f.opcodes → length c.rest ≡ f.width → columns f (row_of c) ≡ c
+columns_back : (f : Form) (c : Columns ℕ) → length c.flags ≡ length f.opcodes → length c.rest ≡ f.width → columns f (row_of_columns c) ≡ c
 unfolding columns_by
 columns_back f c flags rest =
-    let first : cells (slice_index (row_of c)) 2 (length f.opcodes) ≡ c.flags = cells_back (c.pc ∷ c.time ∷ []) c.flags c.rest 2 (length f.opcodes) refl flags in
-    let second : cells (slice_index (row_of c)) (2 + length f.opcodes) f.width ≡ c.rest = cells_back_last (c.pc ∷ c.time ∷ c.flags) c.rest (2 + length f.opcodes) f.width (omega (arith, flags)) rest in
+    let first : cells (slice_index (row_of_columns c)) 2 (length f.opcodes) ≡ c.flags = cells_back (c.pc ∷ c.time ∷ []) c.flags c.rest 2 (length f.opcodes) refl flags in
+    let second : cells (slice_index (row_of_columns c)) (2 + length f.opcodes) f.width ≡ c.rest = cells_back_last (c.pc ∷ c.time ∷ c.flags) c.rest (2 + length f.opcodes) f.width (omega (arith, flags)) rest in
     rw (first, second) refl
 
 module _ (f : Form) (hi : ℕ) (laws : FormLaws f) (top : hi ≤ 13) where
@@ -52,11 +52,11 @@ module _ (f : Form) (hi : ℕ) (laws : FormLaws f) (top : hi ≤ 13) where
       }
 
   -- the constraints and events of columns that stand in a row
-  record Says (done : StepRecord) (c : Columns ℕ) : Type 0 where
+  record FilledSays (done : StepRecord) (c : Columns ℕ) : Type 0 where
     zero : AllZero (form_constraints field f.parts c)
     said : SaysRecord hi done (told_by f c)
 
-  says : (done : StepRecord) → Fillable (16 + hi) done → owns_of f done.instr.op ≡ true → TellsDone f hi done → Says done (filled_columns f done)
+  says : (done : StepRecord) → Fillable (16 + hi) done → owns_of f done.instr.op ≡ true → TellsDone f hi done → FilledSays done (filled_columns f done)
   unfolding form_constraints
   says done fillable own d =
       let c = filled_columns f done in
@@ -67,7 +67,7 @@ module _ (f : Form) (hi : ℕ) (laws : FormLaws f) (top : hi ≤ 13) where
         said = said;
       }
 
-  row_below : (done : StepRecord) → TellsDone f hi done → done.instr.pc < modulus → done.time < modulus → AllBelow (row_of (filled_columns f done))
+  row_below : (done : StepRecord) → TellsDone f hi done → done.instr.pc < modulus → done.time < modulus → AllBelow (row_of_columns (filled_columns f done))
   row_below done d pc time = (pc, (time, all_append (λ x. x < modulus) _ _ (one_hot_below (length f.opcodes) (f.place done)) d.rest_below))
 
   pub form_complete : Complete (form_sheet f hi)
@@ -75,7 +75,7 @@ module _ (f : Form) (hi : ℕ) (laws : FormLaws f) (top : hi ≤ 13) where
       let d = laws.fills hi done top fillable own in
       let c = filled_columns f done in
       let long : length c.flags ≡ length f.opcodes = length-one_hot (length f.opcodes) (f.place done) in
-      let row : Says done (columns f (row_of c)) = subst (Says done) (sym (columns_back f c long d.rest_long)) (says done fillable own d) in
+      let row : FilledSays done (columns f (row_of_columns c)) = subst (FilledSays done) (sym (columns_back f c long d.rest_long)) (says done fillable own d) in
       let fits = time_fits hi done.time (slots_of done.instr.op) top fillable.ends in
       record {
         is_row = record {

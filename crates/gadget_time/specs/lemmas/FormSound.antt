@@ -16,7 +16,7 @@ use Rattle.air_core.specs.lemmas.Cells.{length-cells, cells_below}
 use Rattle.gadget_time.specs.Told.{told_lines, touch_constraint}
 use Rattle.gadget_time.specs.Laws.{OffMachine}
 use Rattle.gadget_time.specs.Form.{Form, Columns, columns, columns_by, valid_of, op_of, told_by, form_constraints, form_sheet, owns_of}
-use Rattle.gadget_time.specs.FormLaws.{FormLaws, IsOther, IsAt, Holds, Tells, InstructionAt, NoHints}
+use Rattle.gadget_time.specs.FormLaws.{FormLaws, IsOther, IsAt, FormHolds, Tells, InstructionAt, NoHints}
 use Rattle.gadget_time.specs.lemmas.ToldLaws.{told_silent, told_step, told_no_hint, good_others, good_program}
 
 record IsParts (f : Form) (c : Columns ℕ) : Type 0 where
@@ -101,21 +101,21 @@ module _ (f : Form) (hi : ℕ) (laws : FormLaws f) where
   set c is holds =
       let n = length f.opcodes in
       elim (flag_cases c.flags is.flags_below (omega (arith, is.flags_long, laws.bounds.few_flags)) holds) [
-        inl (v, none) ↦ inl (silent c v none)
+        | inl (v, none) ↦ inl (silent c v none)
         | inr (v, hot) ↦ inr (
-          let s = set_at c.flags hot in
-          record {
-            place = s.place;
-            valid = v;
-            at = record {
-              below = omega (arith, s.below, is.flags_long);
-              flags = s.are ∙ ap (λ m. one_hot m s.place) is.flags_long;
-              rest_long = is.rest_long;
-              rest_below = is.rest_below;
-              pc_below = is.pc_below;
-              time_below = is.time_below;
-            };
-          })
+            let s = set_at c.flags hot in
+            record {
+              place = s.place;
+              valid = v;
+              at = record {
+                below = omega (arith, s.below, is.flags_long);
+                flags = s.are ∙ ap (λ m. one_hot m s.place) is.flags_long;
+                rest_long = is.rest_long;
+                rest_below = is.rest_below;
+                pc_below = is.pc_below;
+                time_below = is.time_below;
+              };
+            })
       ]
 
   pub form_sound : hi ≤ 13 → f.alone ≡ true → (row : List ℕ) → IsRow (form_sheet f hi) row → RowHolds (form_sheet f hi) row → Good (counted (told_lines field hi (told_by f (columns f row))))
@@ -124,20 +124,20 @@ module _ (f : Form) (hi : ℕ) (laws : FormLaws f) where
       let c = columns f row in
       let p = parts f c holds in
       elim (set c (elements f row is.below) p.flags) [
-        inl none ↦ inl none
+        | inl none ↦ inl none
         | inr s ↦ inr (
-          let i = instruction_at c s.place s.at s.valid good in
-          let own : Holds f c = record { zero = p.own; good = good_others hi (told_by f c) good } in
-          let t = laws.tells s.place c s.at own i in
-          record {
-            instr = i.instr;
-            time = c.time;
-            next = f.parts.next c;
-            accesses = t.accesses;
-            owned = owned c s.place s.at i;
-            step = step top c s.place s.at s.valid p good i t;
-            means = laws.means alone s.place c s.at own i;
-          })
+            let i = instruction_at c s.place s.at s.valid good in
+            let own : FormHolds f c = record { zero = p.own; good = good_others hi (told_by f c) good } in
+            let t = laws.tells s.place c s.at own i in
+            record {
+              instr = i.instr;
+              time = c.time;
+              next = f.parts.next c;
+              accesses = t.accesses;
+              owned = owned c s.place s.at i;
+              step = step top c s.place s.at s.valid p good i t;
+              means = laws.means alone s.place c s.at own i;
+            })
       ]
 
   pub form_timed : hi ≤ 13 → (row : List ℕ) → IsRow (form_sheet f hi) row → RowHolds (form_sheet f hi) row → Good (counted (told_lines field hi (told_by f (columns f row))))
@@ -146,19 +146,19 @@ module _ (f : Form) (hi : ℕ) (laws : FormLaws f) where
       let c = columns f row in
       let p = parts f c holds in
       elim (set c (elements f row is.below) p.flags) [
-        inl none ↦ inl none
+        | inl none ↦ inl none
         | inr s ↦ inr (
-          let i = instruction_at c s.place s.at s.valid good in
-          let own : Holds f c = record { zero = p.own; good = good_others hi (told_by f c) good } in
-          let t = laws.tells s.place c s.at own i in
-          record {
-            instr = i.instr;
-            time = c.time;
-            next = f.parts.next c;
-            accesses = t.accesses;
-            owned = owned c s.place s.at i;
-            step = step top c s.place s.at s.valid p good i t;
-          })
+            let i = instruction_at c s.place s.at s.valid good in
+            let own : FormHolds f c = record { zero = p.own; good = good_others hi (told_by f c) good } in
+            let t = laws.tells s.place c s.at own i in
+            record {
+              instr = i.instr;
+              time = c.time;
+              next = f.parts.next c;
+              accesses = t.accesses;
+              owned = owned c s.place s.at i;
+              step = step top c s.place s.at s.valid p good i t;
+            })
       ]
 
   none_hint : NoHint []
@@ -169,9 +169,9 @@ module _ (f : Form) (hi : ℕ) (laws : FormLaws f) where
       let c = columns f row in
       let p = parts f c holds in
       elim (set c (elements f row is.below) p.flags) [
-        inl none ↦ subst NoHint (sym none) none_hint
+        | inl none ↦ subst NoHint (sym none) none_hint
         | inr s ↦
-          let no = at_place (λ op. (nat_eq op HINT ≡ false) × (nat_eq op HINT_NEXT ≡ false)) f.opcodes s.place s.at.below others in
-          let is_op = op_at c s.place s.at.below s.at.flags in
-          told_no_hint hi (told_by f c) (rw is_op no.0) (rw is_op no.1) (off c)
+            let no = at_place (λ op. (nat_eq op HINT ≡ false) × (nat_eq op HINT_NEXT ≡ false)) f.opcodes s.place s.at.below others in
+            let is_op = op_at c s.place s.at.below s.at.flags in
+            told_no_hint hi (told_by f c) (rw is_op no.0) (rw is_op no.1) (off c)
       ]

@@ -22,6 +22,7 @@ use Rattle.gadget_time.specs.declared.touch.Touch.{Touch}
 use Rattle.gadget_time.specs.Told.{Told, told_lines, told_front, touch_lines, touches_lines, touch_constraint, time_constraint, touched, touched_of, if_touched}
 use Rattle.gadget_time.specs.Laws.{CountsSmall, OffMachine, TellsStep, LaterThan, AllApart}
 use Rattle.air_core.specs.Ring.{field}
+use Rattle.air_core.specs.declared.bus.TheConstants.{MEMORY, EXECUTION, PROGRAM}
 
 -- One access.
 
@@ -29,7 +30,7 @@ touch_quiet : (hi time : ℕ) (a : Touch ℕ) → a.count ≡ 0 → AllByRecursi
 unfolding touch_lines
 touch_quiet hi time a h = (h, (h, (h, (h, tt))))
 
-touch_memory : (hi time : ℕ) (a : Touch ℕ) → a.count ≤ 1 → on_bus 2 (counted (touch_lines field hi time a)) ≡ flat_map (touched_events time) (if_touched a)
+touch_memory : (hi time : ℕ) (a : Touch ℕ) → a.count ≤ 1 → on_bus MEMORY (counted (touch_lines field hi time a)) ≡ flat_map (touched_events time) (if_touched a)
 unfolding touch_lines list_of
 touch_memory hi time a h =
     ⊎_elim
@@ -52,12 +53,12 @@ touches_quiet hi time [] h = tt
 touches_quiet hi time (a ∷ more) h =
     all_append (λ e. e.count ≡ 0) (touch_lines field hi time a) (touches_lines field hi time more) (touch_quiet hi time a h.0) (touches_quiet hi time more h.1)
 
-touches_memory : (hi time : ℕ) (touches : List (Touch ℕ)) → CountsSmall touches → on_bus 2 (counted (touches_lines field hi time touches)) ≡ flat_map (touched_events time) (touched_of touches)
+touches_memory : (hi time : ℕ) (touches : List (Touch ℕ)) → CountsSmall touches → on_bus MEMORY (counted (touches_lines field hi time touches)) ≡ flat_map (touched_events time) (touched_of touches)
 touches_memory hi time [] h = refl
 touches_memory hi time (a ∷ more) h =
     ap (on_bus 2) (counted-append (touch_lines field hi time a) (touches_lines field hi time more))
     ∙ on_bus-append 2 (counted (touch_lines field hi time a)) (counted (touches_lines field hi time more))
-    ∙ ap (λ xs. xs ++ on_bus 2 (counted (touches_lines field hi time more))) (touch_memory hi time a h.0)
+    ∙ ap (λ xs. xs ++ on_bus MEMORY (counted (touches_lines field hi time more))) (touch_memory hi time a h.0)
     ∙ ap (λ xs. flat_map (touched_events time) (if_touched a) ++ xs) (touches_memory hi time more h.1)
     ∙ sym (flat_map-append (touched_events time) (if_touched a) (touched_of more))
 
@@ -99,9 +100,9 @@ others_off bus others low off =
 
 -- a valid row's events on the buses of the machine
 pub record Says (d : Told ℕ Event) (events : List Event) : Type 0 where
-  pub path : on_bus 0 events ≡ received 0 1 (d.pc ∷ d.time ∷ []) ∷ sent 0 1 (d.next ∷ field_add d.time d.slots ∷ []) ∷ []
-  pub program : on_bus 1 events ≡ sent 1 1 d.numbers ∷ []
-  pub memory : on_bus 2 events ≡ flat_map (touched_events d.time) (touched_of d.touches)
+  pub path : on_bus EXECUTION events ≡ received EXECUTION 1 (d.pc ∷ d.time ∷ []) ∷ sent EXECUTION 1 (d.next ∷ field_add d.time d.slots ∷ []) ∷ []
+  pub program : on_bus PROGRAM events ≡ sent PROGRAM 1 d.numbers ∷ []
+  pub memory : on_bus MEMORY events ≡ flat_map (touched_events d.time) (touched_of d.touches)
 
 pub told_says : (hi : ℕ) (d : Told ℕ Event) → d.valid ≡ 1 → CountsSmall d.touches → OffMachine d.others → Says d (counted (told_lines field hi d))
 told_says hi d v small off =
@@ -207,8 +208,8 @@ told_step hi d accesses i top t pc =
       in_range = i.in_range;
       time_below = t.time_below;
       spoken = record {
-        path = says.path ∙ ap (λ (x : ℕ). received 0 1 (x ∷ d.time ∷ []) ∷ sent 0 1 (d.next ∷ field_add d.time d.slots ∷ []) ∷ []) pc;
-        program = says.program ∙ ap (λ (xs : List ℕ). sent 1 1 xs ∷ []) i.are;
+        path = says.path ∙ ap (λ (x : ℕ). received EXECUTION 1 (x ∷ d.time ∷ []) ∷ sent EXECUTION 1 (d.next ∷ field_add d.time d.slots ∷ []) ∷ []) pc;
+        program = says.program ∙ ap (λ (xs : List ℕ). sent PROGRAM 1 xs ∷ []) i.are;
         memory = says.memory ∙ ap (λ (xs : List Touched). flat_map (touched_events d.time) xs) t.are;
       };
       words = subst (AllByRecursion FourEach) t.are (touches_words d.touches);
@@ -282,12 +283,12 @@ touch_length : (hi time : ℕ) (a : Touch ℕ) → length (touch_lines field hi 
 unfolding touch_lines
 touch_length hi time a = refl
 
-touches_length : (hi time : ℕ) (touches : List (Touch ℕ)) → length (touches_lines field hi time touches) ≡ 4 * length touches
+pub touches_length : (hi time : ℕ) (touches : List (Touch ℕ)) → length (touches_lines field hi time touches) ≡ 4 * length touches
 touches_length hi time [] = refl
 touches_length hi time (a ∷ more) =
     omega (arith, length-append (touch_lines field hi time a) (touches_lines field hi time more), touch_length hi time a, touches_length hi time more)
 
-path_length : (valid pc time next slots : ℕ) (numbers : List ℕ) → length (path_lines field valid pc time next slots numbers) ≡ 3
+pub path_length : (valid pc time next slots : ℕ) (numbers : List ℕ) → length (path_lines field valid pc time next slots numbers) ≡ 3
 unfolding path_lines
 path_length valid pc time next slots numbers = refl
 

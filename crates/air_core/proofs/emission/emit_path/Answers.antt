@@ -6,6 +6,7 @@ use Rattle.air_core.proofs.Counted.{on_err_anyway, on_err_map}
 use Rattle.air_core.proofs.Handing.{all_all, some_at}
 use Rattle.air_core.proofs.emission.emit_path.Goals as goal
 use Rattle.air_core.specs.Ring.{field}
+use Rattle.air_core.specs.declared.bus.TheConstants.{EXECUTION}
 
 pub returns-in_err-emit_sent-clause-err : goal.returns-in_err-emit_sent-clause-err
 unfolding path_lines
@@ -19,5 +20,5 @@ unfolding path_lines
 returns-clause-err g c =
     let a = c.args in
     let second = rw (c.add.ensures, c.of_u16.ensures) at c.in_ok-emit_sent.ensures.ok in
-    let both = all_all (received 0 a.valid (a.pc ∷ a.time ∷ []) ∷ []) (sent 0 a.valid (a.next ∷ field_add a.time a.slots ∷ []) ∷ []) c.in_ok-emit_received.ensures.ok second in
+    let both = all_all (received EXECUTION a.valid (a.pc ∷ a.time ∷ []) ∷ []) (sent EXECUTION a.valid (a.next ∷ field_add a.time a.slots ∷ []) ∷ []) c.in_ok-emit_received.ensures.ok second in
     on_err_map c.emit_sent-2.result (some_at 2 (path_lines field a.valid a.pc a.time a.next a.slots a.numbers.now) both) c.emit_sent-2.ensures.err

@@ -1,4 +1,4 @@
-use Rattle.std.proofs.Common.{[], ◌∷◌, take, drop}
+use Rattle.std.proofs.Common.{take, drop}
 use Rattle.air_core.proofs.Counted.{on_err_anyway, on_err_map}
 use Rattle.air_core.proofs.Handing.{all_all, some_at}
 use Rattle.air_core.specs.Ring.{field}

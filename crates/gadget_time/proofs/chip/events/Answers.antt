@@ -34,7 +34,7 @@ returns-in_err-emit_path-clause-err g c =
     c.flags_of-flags.ensures.is c.rest_of-rest.ensures.is g.row.HI c.flag_sum.result c.opcode.result c.next-next.result c.SLOTS.result c.numbers-numbers.result
     c.flag_sum.ensures c.opcode.ensures c.next-next.ensures (c.SLOTS.ensures ∙ sym g.met.T.TableForm.sizes.2) c.numbers-numbers.ensures in
     on_err_anyway _ (subst (λ xs. HandedSome g.S.EventSink.holds g.S.EventSink.room c.args.sink.now c.emit_path.new.sink (counted xs)) e
-      (some_none (path ++ accesses) others (some_none path accesses c.in_err-emit_path.ensures.err)))
+    (some_none (path ++ accesses) others (some_none path accesses c.in_err-emit_path.ensures.err)))
 
 pub accesses-requires-clause-room : goal.accesses-requires-clause-room
 accesses-requires-clause-room g c =
@@ -48,7 +48,7 @@ accesses-requires-clause-room g c =
     let accesses = touches_lines field g.row.HI time (f.parts.touches (parts_of pc time flags rest)) in
     let others = f.parts.others (parts_of pc time flags rest) in
     room_left {k = 3} path c.in_ok-emit_path.ensures.ok (omega (arith, length-path c.flag_sum.result pc time c.next-next.result c.SLOTS.result c.numbers-numbers.result))
-      (omega (arith, c.requires.room, g.met.T.TableForm.laws.bounds.few (parts_of pc time flags rest)))
+    (omega (arith, c.requires.room, g.met.T.TableForm.laws.bounds.few (parts_of pc time flags rest)))
 
 pub returns-in_err-accesses-clause-err : goal.returns-in_err-accesses-clause-err
 returns-in_err-accesses-clause-err g c =
@@ -65,7 +65,7 @@ returns-in_err-accesses-clause-err g c =
     c.flags_of-flags.ensures.is c.rest_of-rest.ensures.is g.row.HI c.flag_sum.result c.opcode.result c.next-next.result c.SLOTS.result c.numbers-numbers.result
     c.flag_sum.ensures c.opcode.ensures c.next-next.ensures (c.SLOTS.ensures ∙ sym g.met.T.TableForm.sizes.2) c.numbers-numbers.ensures in
     on_err_anyway _ (subst (λ xs. HandedSome g.S.EventSink.holds g.S.EventSink.room c.args.sink.now c.accesses.new.sink (counted xs)) e
-      (some_none (path ++ accesses) others (all_some path accesses c.in_ok-emit_path.ensures.ok c.in_err-accesses.ensures.err)))
+    (some_none (path ++ accesses) others (all_some path accesses c.in_ok-emit_path.ensures.ok c.in_err-accesses.ensures.err)))
 
 pub others-requires-clause-room : goal.others-requires-clause-room
 others-requires-clause-room g c =
@@ -80,8 +80,8 @@ others-requires-clause-room g c =
     let others = f.parts.others (parts_of pc time flags rest) in
     let touches = f.parts.touches (parts_of pc time flags rest) in
     room_left {k = 4 * length touches} accesses c.in_ok-accesses.ensures.ok (omega (arith, length-touches g.row.HI time touches))
-      (room_left {n = 4 * length touches + length others} {k = 3} path c.in_ok-emit_path.ensures.ok (omega (arith, length-path c.flag_sum.result pc time c.next-next.result c.SLOTS.result c.numbers-numbers.result))
-        (omega (arith, c.requires.room, g.met.T.TableForm.laws.bounds.few (parts_of pc time flags rest))))
+    (room_left {n = 4 * length touches + length others} {k = 3} path c.in_ok-emit_path.ensures.ok (omega (arith, length-path c.flag_sum.result pc time c.next-next.result c.SLOTS.result c.numbers-numbers.result))
+    (omega (arith, c.requires.room, g.met.T.TableForm.laws.bounds.few (parts_of pc time flags rest))))
 
 pub returns-clause-ok : goal.returns-clause-ok
 returns-clause-ok g c =
@@ -99,7 +99,7 @@ returns-clause-ok g c =
     c.flag_sum.ensures c.opcode.ensures c.next-next.ensures (c.SLOTS.ensures ∙ sym g.met.T.TableForm.sizes.2) c.numbers-numbers.ensures in
     let front = all_all path accesses c.in_ok-emit_path.ensures.ok c.in_ok-accesses.ensures.ok in
     subst (λ xs. OnOk c.others.result (Handed g.S.EventSink.holds g.S.EventSink.room c.args.sink.now c.others.new.sink (counted xs))) e
-      (on_ok_map c.others.result (all_all (path ++ accesses) others front) c.others.ensures.ok)
+    (on_ok_map c.others.result (all_all (path ++ accesses) others front) c.others.ensures.ok)
 
 pub returns-clause-err : goal.returns-clause-err
 returns-clause-err g c =
@@ -117,4 +117,4 @@ returns-clause-err g c =
     c.flag_sum.ensures c.opcode.ensures c.next-next.ensures (c.SLOTS.ensures ∙ sym g.met.T.TableForm.sizes.2) c.numbers-numbers.ensures in
     let front = all_all path accesses c.in_ok-emit_path.ensures.ok c.in_ok-accesses.ensures.ok in
     subst (λ xs. OnErr c.others.result (HandedSome g.S.EventSink.holds g.S.EventSink.room c.args.sink.now c.others.new.sink (counted xs))) e
-      (on_err_map c.others.result (all_some (path ++ accesses) others front) c.others.ensures.err)
+    (on_err_map c.others.result (all_some (path ++ accesses) others front) c.others.ensures.err)

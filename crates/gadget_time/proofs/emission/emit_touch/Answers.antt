@@ -10,15 +10,17 @@ pub returns-in_err-emit_sent-clause-err : goal.returns-in_err-emit_sent-clause-e
 unfolding touch_lines
 returns-in_err-emit_sent-clause-err g c =
     let lines = touch_lines field c.args.hi c.args.time c.args.touch.now in
-    let here = rw (c.add.ensures) at c.in_err-emit_sent.ensures.err in
-    on_err_anyway _ (some_at 1 lines c.in_ok-emit_received.ensures.ok here)
+    let first = rw (c.block-taken.ensures) at c.in_ok-emit_received.ensures.ok in
+    let here = rw (c.block-put.ensures, c.add-at.ensures) at c.in_err-emit_sent.ensures.err in
+    on_err_anyway _ (some_at 1 lines first here)
 
 pub returns-in_err-emit_sent-2-clause-err : goal.returns-in_err-emit_sent-2-clause-err
 unfolding touch_lines
 returns-in_err-emit_sent-2-clause-err g c =
     let lines = touch_lines field c.args.hi c.args.time c.args.touch.now in
-    let second = rw (c.add.ensures) at c.in_ok-emit_sent.ensures.ok in
-    let both = all_all (take 1 lines) (take 1 (drop 1 lines)) c.in_ok-emit_received.ensures.ok second in
+    let first = rw (c.block-taken.ensures) at c.in_ok-emit_received.ensures.ok in
+    let second = rw (c.block-put.ensures, c.add-at.ensures) at c.in_ok-emit_sent.ensures.ok in
+    let both = all_all (take 1 lines) (take 1 (drop 1 lines)) first second in
     let here = rw (c.of_u16.ensures) at c.in_err-emit_sent-2.ensures.err in
     on_err_anyway _ (some_at 2 lines both here)
 
@@ -26,8 +28,9 @@ pub returns-clause-err : goal.returns-clause-err
 unfolding touch_lines
 returns-clause-err g c =
     let lines = touch_lines field c.args.hi c.args.time c.args.touch.now in
-    let second = rw (c.add.ensures) at c.in_ok-emit_sent.ensures.ok in
-    let both = all_all (take 1 lines) (take 1 (drop 1 lines)) c.in_ok-emit_received.ensures.ok second in
+    let first = rw (c.block-taken.ensures) at c.in_ok-emit_received.ensures.ok in
+    let second = rw (c.block-put.ensures, c.add-at.ensures) at c.in_ok-emit_sent.ensures.ok in
+    let both = all_all (take 1 lines) (take 1 (drop 1 lines)) first second in
     let third = rw (c.of_u16.ensures) at c.in_ok-emit_sent-2.ensures.ok in
     let three = all_all (take 2 lines) (take 1 (drop 2 lines)) both third in
     let here = rw (c.of_u16-2.ensures) at c.emit_sent-3.ensures.err in

@@ -12,11 +12,11 @@ returns-then-immediates-clause-number g c flags rest pc time flags_long rest_lon
     let core = g.C.RegsCore.core in
     let o = operands_of field core.immediates core.own (parts_of pc time flags rest) in
     count_with core.immediates (registers field core.immediates core.own (parts_of pc time flags rest)) (core.parts.constraints o) c.constraints-own.result (sym c.immediates.ensures ∙ c.if-immediates.true)
-      (c.constraints-own.ensures.number o flags_long (length-cells (slice_index rest) (words_from core.immediates + 12) core.own))
+    (c.constraints-own.ensures.number o flags_long (length-cells (slice_index rest) (words_from core.immediates + 12) core.own))
 
 pub returns-else-immediates-clause-number : goal.returns-else-immediates-clause-number
 returns-else-immediates-clause-number g c flags rest pc time flags_long rest_long =
     let core = g.C.RegsCore.core in
     let o = operands_of field core.immediates core.own (parts_of pc time flags rest) in
     count_without core.immediates (registers field core.immediates core.own (parts_of pc time flags rest)) (core.parts.constraints o) c.constraints-own.result (sym c.immediates.ensures ∙ c.if-immediates.false)
-      (c.constraints-own.ensures.number o flags_long (length-cells (slice_index rest) (words_from core.immediates + 12) core.own))
+    (c.constraints-own.ensures.number o flags_long (length-cells (slice_index rest) (words_from core.immediates + 12) core.own))

@@ -2,7 +2,7 @@ use Rattle.std.proofs.Common.{sym, subst, List, refl, lit<}
 use Rattle.vm_isa.specs.declared.access.TimedAccess.{TimedAccess}
 use Rattle.vm_isa.specs.Means.{Fillable}
 use Rattle.vm_isa.proofs.Example.{fence, fence_fillable}
-use Rattle.air_core.proofs.tests.the_row_of_a_step.Goals as goal
+use Rattle.gadget_time.proofs.tests.the_row_of_a_step.Goals as goal
 
 pub fill-requires : goal.fill-requires
 fill-requires g c =

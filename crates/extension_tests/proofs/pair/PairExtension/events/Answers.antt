@@ -1,7 +1,0 @@
-use Rattle.extension_tests.proofs.pair.PairExtension.events.Goals as goal
-
-pub returns-in-1-clause-ok : goal.returns-in-1-clause-ok
-returns-in-1-clause-ok g c = rw c.in-1.is (rw c.answer_events.ensures at c.hand_counted-in-1.ensures.ok)
-
-pub returns-in-1-clause-err : goal.returns-in-1-clause-err
-returns-in-1-clause-err g c = rw c.in-1.is (rw c.answer_events.ensures at c.hand_counted-in-1.ensures.err)
