@@ -14,7 +14,7 @@ use Rattle.lookup_tables.specs.Rows.{row_at}
 use Rattle.offline_memory.specs.MemoryEvents.{boundary_events}
 use Rattle.elf_image.specs.Loaded.{Loaded}
 use Rattle.acceptance.specs.Events.{received_row, received_on, segment_events}
-use Rattle.real_files.specs.TwoSums.{two_tables, first_sum, second_sum, first_segment, second_segment, first_page, second_page, first_row, second_row, entry}
+use Rattle.real_files.specs.TwoSums.{two_tables, first_sum, second_sum, first_segment, second_segment, first_touched, second_touched, first_row, second_row, entry}
 use Rattle.real_files.proofs.Rows.{first_lines, second_lines, first_says, second_says}
 use Rattle.real_files.proofs.Tested.{each_even, balanced_by_test}
 
@@ -24,7 +24,7 @@ first_said said row =
     connector_events (record { pc = 4096; time = 1 }) (record { pc = 4100; time = 4 })
     ++ (((said ++ []) ++ [])
     ++ (((received_row 1 1 (option_map numbers_of row) ++ []) ++ (received_on [] 3 (entry 0 3 ∷ entry 1799 1 ∷ []) ++ (received_on [] 4 (entry 255 2 ∷ entry 65535 1 ∷ entry 65537 1 ∷ []) ++ [])))
-    ++ flat_map boundary_events (first_page ∷ [])))
+    ++ flat_map boundary_events (first_touched ∷ [])))
 
 first_even : Balanced (first_said first_lines (Some first_sum))
 unfolding each_even numbers_of row_at
@@ -40,7 +40,7 @@ second_said said row =
     connector_events (record { pc = 4100; time = 1 }) (record { pc = 4104; time = 4 })
     ++ (((said ++ []) ++ [])
     ++ (((received_row 1 1 (option_map numbers_of row) ++ []) ++ (received_on [] 3 (entry 0 3 ∷ entry 3598 1 ∷ []) ++ (received_on [] 4 (entry 255 3 ∷ entry 65535 2 ∷ entry 65537 1 ∷ []) ++ [])))
-    ++ flat_map boundary_events (second_page ∷ [])))
+    ++ flat_map boundary_events (second_touched ∷ [])))
 
 second_even : Balanced (second_said second_lines (Some second_sum))
 unfolding each_even numbers_of row_at

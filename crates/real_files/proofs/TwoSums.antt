@@ -36,7 +36,7 @@ use Rattle.acceptance.specs.Holds.{IsMachinePage, SegmentHolds}
 use Rattle.acceptance.proofs.CanonicalTrees.{siblings_canonical, path_canonical}
 use Rattle.acceptance.proofs.Example.{root_canonical, few_siblings, path_levels, path_digests_of, few_rows, end_in_range, zeros_are_bytes}
 use Rattle.real_files.specs.Laws.{TwoSumsAreAccepted}
-use Rattle.real_files.specs.TwoSums.{BeginsWithSums, two_tables, first_sum, second_sum, first_row, second_row, nothing_written, five_written, six_written, first_page, second_page, leaves_between, leaves_behind, entry, first_segment, second_segment, two_sums_file}
+use Rattle.real_files.specs.TwoSums.{BeginsWithSums, two_tables, first_sum, second_sum, first_row, second_row, nothing_written, five_written, six_written, first_touched, second_touched, leaves_between, leaves_behind, entry, first_segment, second_segment, two_sums_file}
 use Rattle.real_files.proofs.Balances.{first_balanced, second_balanced}
 use Rattle.real_files.proofs.Rows.{first_holds, second_holds}
 use Rattle.real_files.proofs.Tested.{all_below, each_below}
@@ -47,7 +47,7 @@ one_label : (page : Touched) → IsStrictlyIncreasing (labels_of (page ∷ []))
 unfolding labels_of
 one_label page = λ k h. absurd (omega (arith, h))
 
-first_whole : IsWhole first_page
+first_whole : IsWhole first_touched
 unfolding each_below
 first_whole = record {
   old = record { size = refl; bytes = all_below 256 nothing_written refl };
@@ -55,7 +55,7 @@ first_whole = record {
   times = refl;
 }
 
-second_whole : IsWhole second_page
+second_whole : IsWhole second_touched
 unfolding each_below
 second_whole = record {
   old = record { size = refl; bytes = all_below 256 five_written refl };
@@ -67,10 +67,10 @@ second_whole = record {
 opened : (m : Leaves) (page : Touched) → page.old ≡ m page.label → AreRoots (page ∷ []) (siblings_of m (labels_of (page ∷ []))) (root m) (root (with_pages m (page ∷ [])))
 opened m page is = own_roots m (page ∷ []) (one_label page) (All-from_recursion (λ (p : Touched). p.old ≡ m p.label) (page ∷ []) (is, tt))
 
-first_old : (image : Loaded) → first_page.old ≡ start_map image first_page.label
+first_old : (image : Loaded) → first_touched.old ≡ start_map image first_touched.label
 first_old image = sym (start_map-out image REGISTER_LABEL (λ e. omega (arith, e)))
 
-second_old : (image : Loaded) → second_page.old ≡ leaves_between image second_page.label
+second_old : (image : Loaded) → second_touched.old ≡ leaves_between image second_touched.label
 unfolding with_pages replaced labels_of new_bytes_at labelled_bytes
 second_old image = refl
 
@@ -99,10 +99,10 @@ module _ (image : Loaded) (place : ℕ) where
     hold = ((first_holds, tt), (tt, tt));
     slots = lit< tt;
     balanced = first_balanced (program_of image) image place stands;
-    rising = one_label first_page;
+    rising = one_label first_touched;
     pages = (record { label = inl refl; whole = first_whole }, tt);
-    digests = siblings_of-digests (start_map image) (labels_of (first_page ∷ []));
-    roots = opened (start_map image) first_page (first_old image);
+    digests = siblings_of-digests (start_map image) (labels_of (first_touched ∷ []));
+    roots = opened (start_map image) first_touched (first_old image);
   }
 
   pub second_segment_holds : slice_get (program_of image) place ≡ Some second_sum → SegmentHolds two_tables (program_of image) (second_segment image place)
@@ -113,10 +113,10 @@ module _ (image : Loaded) (place : ℕ) where
     hold = ((second_holds, tt), (tt, tt));
     slots = lit< tt;
     balanced = second_balanced (program_of image) image place stands;
-    rising = one_label second_page;
+    rising = one_label second_touched;
     pages = (record { label = inl refl; whole = second_whole }, tt);
-    digests = siblings_of-digests (leaves_between image) (labels_of (second_page ∷ []));
-    roots = opened (leaves_between image) second_page (second_old image);
+    digests = siblings_of-digests (leaves_between image) (labels_of (second_touched ∷ []));
+    roots = opened (leaves_between image) second_touched (second_old image);
   }
 
   -- ---- and they are canonical
@@ -140,9 +140,9 @@ module _ (image : Loaded) (place : ℕ) where
     range = record { number = lit< tt; each = (some_entry _ _ 255 2 refl refl refl refl refl, (some_entry _ _ 65535 1 refl refl refl refl refl, (some_entry _ _ 65537 1 refl refl refl refl refl, tt))) };
     constants = record { number = lit< tt; each = tt };
     page_number = lit< tt;
-    pages = (record { label = lit< tt; whole = first_whole; times = all_below modulus first_page.times refl }, tt);
-    sibling_number = few_siblings (start_map image) (labels_of (first_page ∷ []));
-    siblings = siblings_canonical (start_map image) (labels_of (first_page ∷ []));
+    pages = (record { label = lit< tt; whole = first_whole; times = all_below modulus first_touched.times refl }, tt);
+    sibling_number = few_siblings (start_map image) (labels_of (first_touched ∷ []));
+    siblings = siblings_canonical (start_map image) (labels_of (first_touched ∷ []));
   }
 
   pub second_segment_canonical : slice_get (program_of image) place ≡ Some second_sum → IsCanonicalSegment (limits_of 1) (shape_of two_tables image) (second_segment image place)
@@ -159,9 +159,9 @@ module _ (image : Loaded) (place : ℕ) where
     range = record { number = lit< tt; each = (some_entry _ _ 255 3 refl refl refl refl refl, (some_entry _ _ 65535 2 refl refl refl refl refl, (some_entry _ _ 65537 1 refl refl refl refl refl, tt))) };
     constants = record { number = lit< tt; each = tt };
     page_number = lit< tt;
-    pages = (record { label = lit< tt; whole = second_whole; times = all_below modulus second_page.times refl }, tt);
-    sibling_number = few_siblings (leaves_between image) (labels_of (second_page ∷ []));
-    siblings = siblings_canonical (leaves_between image) (labels_of (second_page ∷ []));
+    pages = (record { label = lit< tt; whole = second_whole; times = all_below modulus second_touched.times refl }, tt);
+    sibling_number = few_siblings (leaves_between image) (labels_of (second_touched ∷ []));
+    siblings = siblings_canonical (leaves_between image) (labels_of (second_touched ∷ []));
   }
 
 -- ---- the whole

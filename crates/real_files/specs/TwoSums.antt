@@ -61,18 +61,18 @@ abbrev pub six_written : List ℕ
 six_written = replicate 20 0 ++ (7 ∷ 0 ∷ 0 ∷ 0 ∷ 14 ∷ replicate 39 0)
 
 -- x0 was read at time 1, and x5 written at time 3
-abbrev pub first_page : Touched
-first_page = record { label = REGISTER_LABEL; old = nothing_written; new = five_written; times = 1 ∷ 0 ∷ 0 ∷ 0 ∷ 0 ∷ 3 ∷ replicate 10 0 }
+abbrev pub first_touched : Touched
+first_touched = record { label = REGISTER_LABEL; old = nothing_written; new = five_written; times = 1 ∷ 0 ∷ 0 ∷ 0 ∷ 0 ∷ 3 ∷ replicate 10 0 }
 
 -- x5 was last read at time 2, and x6 written at time 3
-abbrev pub second_page : Touched
-second_page = record { label = REGISTER_LABEL; old = five_written; new = six_written; times = replicate 5 0 ++ (2 ∷ 3 ∷ replicate 9 0) }
+abbrev pub second_touched : Touched
+second_touched = record { label = REGISTER_LABEL; old = five_written; new = six_written; times = replicate 5 0 ++ (2 ∷ 3 ∷ replicate 9 0) }
 
 abbrev pub leaves_between : Loaded → Leaves
-leaves_between image = with_pages (start_map image) (first_page ∷ [])
+leaves_between image = with_pages (start_map image) (first_touched ∷ [])
 
 abbrev pub leaves_behind : Loaded → Leaves
-leaves_behind image = with_pages (leaves_between image) (second_page ∷ [])
+leaves_behind image = with_pages (leaves_between image) (second_touched ∷ [])
 
 -- ---- the file
 
@@ -93,8 +93,8 @@ first_segment image place = record {
   xor = entry 0 3 ∷ entry 1799 1 ∷ [];
   range = entry 255 2 ∷ entry 65535 1 ∷ entry 65537 1 ∷ [];
   constants = [];
-  pages = first_page ∷ [];
-  siblings = siblings_of (start_map image) (labels_of (first_page ∷ []));
+  pages = first_touched ∷ [];
+  siblings = siblings_of (start_map image) (labels_of (first_touched ∷ []));
 }
 
 abbrev pub second_segment : Loaded → ℕ → Segment
@@ -111,8 +111,8 @@ second_segment image place = record {
   xor = entry 0 3 ∷ entry 3598 1 ∷ [];
   range = entry 255 3 ∷ entry 65535 2 ∷ entry 65537 1 ∷ [];
   constants = [];
-  pages = second_page ∷ [];
-  siblings = siblings_of (leaves_between image) (labels_of (second_page ∷ []));
+  pages = second_touched ∷ [];
+  siblings = siblings_of (leaves_between image) (labels_of (second_touched ∷ []));
 }
 
 abbrev pub two_sums_file : Loaded → ℕ → ℕ → ℕ → File

@@ -15,7 +15,7 @@ use Rattle.vm_trace.specs.Pages.{IsLeaf}
 use Rattle.table_format.specs.declared.reason.Reason.{Reason}
 use Rattle.table_format.specs.declared.reason.Reason.TheVariants as reason
 use Rattle.table_format.specs.Order
-use Rattle.table_format.specs.Order.{want, same_bytes, Tests, no_tests, Stand, first_stand, behind, all_behind, first_page, next_page, codes, counts, siblings, segment_of, without_siblings, parts, segment, next_place, file_of, body, is_version, file, piece}
+use Rattle.table_format.specs.Order.{want, same_bytes, Tests, no_tests, Stand, first_stand, next_stand, stand_after, first_page, next_page, codes, counts, siblings, segment_of, without_siblings, parts, segment, next_place, file_of, body, is_version, file, piece}
 use Rattle.table_format.specs.Texts.{number_text, byte_text, flag_text, raw_text, counted_text, entry_text, rows_text, page_text, segment_text, body_text, head_text, file_text, piece_text, magic}
 use Rattle.table_format.specs.Exactly.{RowsPass, Passes, AllPass, PassesFile, IsPassed, NoReasonExactly, NoReasonInAPiece, OneSpelling}
 use Rattle.table_format.proofs.ExactItems.{want_so, so_want, are_same, all_of_each, each_of_all, exact_times, exact_list, exact_byte, exact_flag, exact_element, exact_digest, exact_leaf, exact_code, IsRead, AreRead, exact_tables, exact_entries, ArePagesRead, exact_pages}
@@ -141,14 +141,14 @@ record Runs (limits : Limits) (shape : Shape) (t : Tests) (n : ℕ) (at : Stand)
 
 module _ (limits : Limits) (shape : Shape) (t : Tests) where
   abbrev Listed : ℕ → Stand → List Segment → Type 0
-  Listed n at ss = AreListed t.follows t.closed (Good limits shape t) behind n at ss
+  Listed n at ss = AreListed t.follows t.closed (Good limits shape t) next_stand n at ss
 
   runs : (n : ℕ) (at : Stand) (ss : List Segment) → Listed n at ss → Runs limits shape t n at ss
   runs zero at [] h = record { few = omega arith; canonical = tt; pass = h }
   runs (suc n) at [] h = record { few = omega arith; canonical = tt; pass = h }
   runs zero at (s ∷ ss) h = absurd h
   runs (suc n) at (s ∷ ss) h =
-      let more = runs n (behind at s) ss h.2 in
+      let more = runs n (next_stand at s) ss h.2 in
       record { few = omega (arith, more.few); canonical = (h.1.0, more.canonical); pass = (h.0, h.1.1, more.pass) }
 
   listed : (n : ℕ) (at : Stand) (ss : List Segment) → Runs limits shape t n at ss → Listed n at ss
@@ -156,7 +156,7 @@ module _ (limits : Limits) (shape : Shape) (t : Tests) where
   listed (suc n) at [] r = r.pass
   listed zero at (s ∷ ss) r = absurd (omega (arith, r.few))
   listed (suc n) at (s ∷ ss) r =
-      (r.pass.0, (r.canonical.0, r.pass.1), listed n (behind at s) ss (record { few = omega (arith, r.few); canonical = r.canonical.1; pass = r.pass.2 }))
+      (r.pass.0, (r.canonical.0, r.pass.1), listed n (next_stand at s) ss (record { few = omega (arith, r.few); canonical = r.canonical.1; pass = r.pass.2 }))
 
 -- ---- a file
 
@@ -174,9 +174,9 @@ record IsBody (version : ℕ) (shape : Shape) (t : Tests) (f : File) : Type 0 wh
   passes : PassesFile t f
 
 exact_body : (version : ℕ) (shape : Shape) (t : Tests) → Exact (body version shape t) body_text (λ f. (f.version ≡ version) × IsBody version shape t f)
-exact_body version shape t = exact_so (exact_unless (λ f. t.claim (all_behind first_stand f.segments) f)
+exact_body version shape t = exact_so (exact_unless (λ f. t.claim (stand_after first_stand f.segments) f)
     (exact_seen {other = body_text} {Fair = λ f. (f.version ≡ version) × (Listed (limits_of version) shape t t.most first_stand f.segments × ((f.code < 256) × (IsLeaf f.public_bytes × ((length f.path ≡ 25) × AllByRecursion IsDigest f.path))))} (file_of version)
-    (exact_both (exact_listed reason.TooManySegments t.follows t.closed Order.flag flag_text (segment (limits_of version) shape t) segment_text (Good (limits_of version) shape t) behind exact_flag (exact_segment (limits_of version) shape t (small version)) t.most first_stand)
+    (exact_both (exact_listed reason.TooManySegments t.follows t.closed Order.flag flag_text (segment (limits_of version) shape t) segment_text (Good (limits_of version) shape t) next_stand exact_flag (exact_segment (limits_of version) shape t (small version)) t.most first_stand)
     (λ ss h. exact_both exact_byte (λ c h. exact_both exact_leaf (λ p h. exact_times next_place (λ i. exact_digest) 25 0))))
     (λ p h. ((refl, h), refl))
     (λ f h. ((f.segments, (f.code, (f.public_bytes, f.path))), ap (λ (v : ℕ). file_of v (f.segments, (f.code, (f.public_bytes, f.path)))) (sym h.0), h.1))))
@@ -264,7 +264,7 @@ all_pass most at [] = refl
 all_pass most at (s ∷ ss) = (
   refl,
   record { heights = refl; rows = rows_pass most at 0 s.tables; pages = each_passes next_page first_page s.pages; siblings = refl; whole = refl },
-  all_pass most (behind at s) ss,
+  all_pass most (next_stand at s) ss,
 )
 
 pub spelled_once : OneSpelling

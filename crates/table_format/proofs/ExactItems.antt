@@ -16,7 +16,7 @@ use Rattle.vm_trace.specs.Pages.{IsLeaf, IsWhole}
 use Rattle.table_format.specs.declared.reason.Reason.{Reason}
 use Rattle.table_format.specs.declared.reason.Reason.TheVariants as reason
 use Rattle.table_format.specs.Order
-use Rattle.table_format.specs.Order.{want, same_bytes, PageAt, first_page, next_page, Stand, Tests, list, next_place, code, row, rows, tables, entry, entry_of, is_entry, next_least, entries, page, page_of, pages}
+use Rattle.table_format.specs.Order.{want, same_bytes, PageAt, first_page, next_page, Stand, Tests, list, next_place, code, row, rows, tables, entry, entry_of, is_entry, next_least, entries, page, touched_of, pages}
 use Rattle.table_format.specs.Texts.{number_text, byte_text, flag_text, raw_text, counted_text, entry_text, rows_text, page_text}
 
 -- ---- tests
@@ -178,7 +178,7 @@ exact_entries end = exact_so (exact_list next_least (exact_number reason.Cut) (e
 
 exact_page : (t : Tests) (at : Stand) (place : PageAt) → Exact (page t at place) page_text (λ p. IsCanonicalPage p × (t.page at place p ≡ None))
 exact_page t at place = exact_so (exact_unless (t.page at place)
-    (exact_seen {other = page_text} {Fair = λ g. IsNumber g.label × (IsLeaf g.old × (IsLeaf g.new × ((length g.times ≡ 16) × AllByRecursion IsElement g.times)))} page_of
+    (exact_seen {other = page_text} {Fair = λ g. IsNumber g.label × (IsLeaf g.old × (IsLeaf g.new × ((length g.times ≡ 16) × AllByRecursion IsElement g.times)))} touched_of
     (exact_both (exact_number reason.Cut) (λ a h. exact_both exact_leaf (λ b i. exact_both exact_leaf (λ c j. exact_times next_place (λ i. exact_element) 16 0))))
     (λ q h. (h, refl)) (λ g h. ((g.label, (g.old, (g.new, g.times))), refl, h))))
     (λ g h. (record { label = h.0.0; whole = record { old = h.0.1.0; new = h.0.1.1.0; times = h.0.1.1.1.0 }; times = h.0.1.1.1.1 }, h.1))

@@ -6,7 +6,7 @@ use Rattle.vm_trace.specs.declared.page.Touched.{Touched}
 use Rattle.vm_trace.specs.Canonical.{Shape, IsCanonicalSegment, IsCanonical}
 use Rattle.vm_trace.specs.File.{Segment, File}
 use Rattle.vm_trace.specs.Limits.{limits_of}
-use Rattle.table_format.specs.Order.{Tests, Stand, PageAt, first_page, next_page, next_place, first_stand, behind, all_behind, file, piece}
+use Rattle.table_format.specs.Order.{Tests, Stand, PageAt, first_page, next_page, next_place, first_stand, next_stand, stand_after, file, piece}
 use Rattle.table_format.specs.Texts.{file_text, piece_text}
 use Rattle.table_format.specs.declared.reason.Reason.TheVariants.{Trailing}
 
@@ -26,13 +26,13 @@ pub record Passes (t : Tests) (at : Stand) (s : Segment) : Type 0 where
 -- nor does one between segments
 abbrev pub AllPass : Tests → Stand → List Segment → Type 0
 AllPass t at [] = t.closed at ≡ None
-AllPass t at (s ∷ ss) = (t.follows at ≡ None) × Passes t at s × AllPass t (behind at s) ss
+AllPass t at (s ∷ ss) = (t.follows at ≡ None) × Passes t at s × AllPass t (next_stand at s) ss
 
 -- nor one of the claim
 pub record PassesFile (t : Tests) (f : File) : Type 0 where
   pub few : length f.segments ≤ t.most
   pub segments : AllPass t first_stand f.segments
-  pub claim : t.claim (all_behind first_stand f.segments) f ≡ None
+  pub claim : t.claim (stand_after first_stand f.segments) f ≡ None
 
 -- a file of the form, of a version up to the greatest, that passes the tests of its version
 pub record IsPassed (shape : ℕ → Shape) (t : ℕ → Tests) (greatest : ℕ) (f : File) : Type 0 where

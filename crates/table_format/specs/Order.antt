@@ -44,12 +44,12 @@ pub record Stand : Type 0 where
 abbrev pub first_stand : Stand
 first_stand = record { number = 0; before = [] }
 
-abbrev pub behind : Stand → Segment → Stand
-behind at s = record { number = at.number + 1; before = s ∷ at.before }
+abbrev pub next_stand : Stand → Segment → Stand
+next_stand at s = record { number = at.number + 1; before = s ∷ at.before }
 
-abbrev pub all_behind : Stand → List Segment → Stand
-all_behind at [] = at
-all_behind at (s ∷ ss) = all_behind (behind at s) ss
+abbrev pub stand_after : Stand → List Segment → Stand
+stand_after at [] = at
+stand_after at (s ∷ ss) = stand_after (next_stand at s) ss
 
 -- What a checker asks more, item by item.
 pub record Tests : Type 0 where
@@ -146,11 +146,11 @@ next_least least e = e.place + 1
 abbrev pub entries : ℕ → Reading Reason (List CountEntry)
 entries end = list (number reason.Cut) (entry end) next_least 0
 
-abbrev pub page_of : ℕ × (List ℕ × (List ℕ × List ℕ)) → Touched
-page_of p = record { label = p.0; old = p.1.0; new = p.1.1.0; times = p.1.1.1 }
+abbrev pub touched_of : ℕ × (List ℕ × (List ℕ × List ℕ)) → Touched
+touched_of p = record { label = p.0; old = p.1.0; new = p.1.1.0; times = p.1.1.1 }
 
 abbrev pub page : Tests → Stand → PageAt → Reading Reason Touched
-page t at place = unless (t.page at place) (seen page_of (both (number reason.Cut) (λ a. both leaf (λ b. both leaf (λ c. chain (λ i. element) next_place 16 0)))))
+page t at place = unless (t.page at place) (seen touched_of (both (number reason.Cut) (λ a. both leaf (λ b. both leaf (λ c. chain (λ i. element) next_place 16 0)))))
 
 abbrev pub pages : Tests → Stand → Reading Reason (List Touched)
 pages t at = list (number reason.Cut) (page t at) next_page first_page
@@ -214,8 +214,8 @@ file_of version p = record { version = version; segments = p.0; code = p.1.0; pu
 
 -- what stands behind the head of this version
 abbrev pub body : ℕ → Shape → Tests → Reading Reason File
-body version shape t = unless (λ f. t.claim (all_behind first_stand f.segments) f) (seen (file_of version)
-    (both (listed reason.TooManySegments t.follows t.closed flag (segment (limits_of version) shape t) behind t.most first_stand)
+body version shape t = unless (λ f. t.claim (stand_after first_stand f.segments) f) (seen (file_of version)
+    (both (listed reason.TooManySegments t.follows t.closed flag (segment (limits_of version) shape t) next_stand t.most first_stand)
     (λ ss. both byte (λ c. both leaf (λ p. chain (λ i. digest) next_place 25 0)))))
 
 abbrev pub is_version : ℕ → ℕ → Bool
