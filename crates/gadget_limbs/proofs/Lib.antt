@@ -5,3 +5,9 @@ pub mod SumHolds
 pub mod BitLaws
 pub mod LookupLaws
 pub mod WordLookups
+pub mod SignLaws
+pub mod RangeLaws
+pub mod Ordering
+pub mod OrderFilled
+pub mod OrderedWords
+pub mod RangesSplit

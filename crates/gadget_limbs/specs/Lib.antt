@@ -2,3 +2,8 @@ pub mod Number
 pub mod Sum
 pub mod Lookup
 pub mod Laws
+pub mod Sign
+pub mod Ranges
+pub mod Less
+pub mod SignLaws
+pub mod OrderLaws

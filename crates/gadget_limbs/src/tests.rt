@@ -1,6 +1,6 @@
-//! Sums of four and of eight limbs.
+//! Sums of four and of eight limbs, and signs.
 
-use crate::first_broken;
+use crate::{first_broken, sign_constraints, sign_looked_up};
 use std::test::Fail;
 use vm_field::Fe;
 
@@ -38,5 +38,23 @@ fn sums(rt: HostRuntime) -> Result<(), Fail> {
         first_broken(0, Fe::ONE, &long, &small, &[Fe::ZERO; 8]),
         Some(4)
     );
+    Ok(())
+}
+
+/// The sign of 80 is 1 and that of 7F is 0: byte, 128 and their xor. A sign without a gate is refused, and 2 is none.
+#[test]
+fn signs(rt: HostRuntime) -> Result<(), Fail> {
+    let two = Fe::of_u16(2);
+    assert_eq!(rt;
+        sign_looked_up(Fe::ONE, Fe::of_u16(128)),
+        elements(&[128, 128, 0])
+    );
+    assert_eq!(rt;
+        sign_looked_up(Fe::ZERO, Fe::of_u16(127)),
+        elements(&[127, 128, 255])
+    );
+    assert_eq!(rt; sign_constraints(Fe::ONE, Fe::ONE), [Fe::ZERO; 2]);
+    assert_eq!(rt; sign_constraints(Fe::ONE, Fe::ZERO), [Fe::ZERO, Fe::ONE]);
+    assert_eq!(rt; sign_constraints(two, Fe::ONE), [two, Fe::ZERO]);
     Ok(())
 }

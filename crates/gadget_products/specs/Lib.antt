@@ -1,0 +1,5 @@
+pub mod Product
+pub mod Carry
+pub mod Multiply
+pub mod Divide
+pub mod Laws

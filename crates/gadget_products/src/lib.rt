@@ -1,0 +1,11 @@
+//! Products of numbers by their limbs, and the carries from limb to limb.
+#![tactic(auto)]
+
+mod carry;
+pub mod laws;
+mod product;
+#[cfg(test)]
+mod tests;
+
+pub use carry::carries;
+pub use product::place;
