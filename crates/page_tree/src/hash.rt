@@ -2,8 +2,8 @@
 ghost use Rattle.std.specs.Prelude.{◌≡◌, ◌++◌};
 ghost use Rattle.sha2.specs.Sha256.{sha256};
 
-use vm_trace::Digest;
 use sha2::{Digest as Hash, Sha256};
+use vm_trace::Digest;
 
 /// The digest of a leaf.
 pub fn leaf_digest(leaf: &[u8; 64]) -> Digest

@@ -7,8 +7,8 @@ ghost use Rattle.std.specs.Prelude.{◌<◌, ◌^◌, length};
 use air_core::{Both, Event, EventList, Extension, Side, Single, Tuple, bus, hand_counted};
 use bus_core::Balance;
 use chip_alu::Alu;
-use gadget_time::Nop;
 use elf_image::read_image;
+use gadget_time::Nop;
 use hex::FromHex;
 use lookup_tables::tuple_at;
 use offline_memory::boundary_events;
@@ -149,7 +149,13 @@ fn balances(
     events.push(event(bus::EXECUTION, Side::Receive, end, 1))?;
     let mut hold = true;
     for table in 0..2 {
-        if !push_rows(alloc, &ext, table, segment.tables[table as usize], &mut events)? {
+        if !push_rows(
+            alloc,
+            &ext,
+            table,
+            segment.tables[table as usize],
+            &mut events,
+        )? {
             hold = false;
         }
     }

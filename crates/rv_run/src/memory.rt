@@ -222,7 +222,8 @@ fn copy_part(bytes: &mut [u8; 4096], start: usize, load: &LoadPart<'_>)
     let first = address.max(start);
     let end = (address + load.bytes.len()).min(start + PAGE_SIZE);
     if first < end {
-        bytes[first - start..end - start]
-            .copy_from_slice(&load.bytes[first - address..end - address]);
+        bytes[first - start..end - start].copy_from_slice(
+            &load.bytes[first - address..end - address],
+        );
     }
 }

@@ -11,23 +11,38 @@ use std::alloc::{AllocError, Global};
 #[derive(Clone, Copy, Debug, PartialEq, Eq)]
 pub enum Reason {
     /// The file ends inside the item being read. The offset is that of the first missing byte.
-    Cut { offset: u64 },
+    Cut {
+        offset: u64,
+    },
     /// The first eight bytes aren't the form's name.
     Magic,
     /// There is no such version.
-    Version { version: u32 },
+    Version {
+        version: u32,
+    },
     /// A mark is neither 0 nor 1.
-    Marker { offset: u64 },
+    Marker {
+        offset: u64,
+    },
     /// A segment follows 4,096 others.
     TooManySegments,
     /// A segment follows one that says that it is the last.
-    EarlyEnd { segment: u32 },
+    EarlyEnd {
+        segment: u32,
+    },
     /// A pc, a time or a value of a row is the field's prime or more.
-    NotCanonical { offset: u64 },
+    NotCanonical {
+        offset: u64,
+    },
     /// The code of a height is above the version's greatest.
-    Height { segment: u32, table: u32 },
+    Height {
+        segment: u32,
+        table: u32,
+    },
     /// The tables have more slots than the version has times.
-    SlotSum { segment: u32 },
+    SlotSum {
+        segment: u32,
+    },
     /// A constraint isn't 0 on a row.
     Row {
         segment: u32,
@@ -36,11 +51,19 @@ pub enum Reason {
         constraint: u32,
     },
     /// An entry's count is 0, or its place isn't above the one before it or isn't in its table.
-    CountEntry { offset: u64 },
+    CountEntry {
+        offset: u64,
+    },
     /// A label isn't above the one before it.
-    PageOrder { segment: u32, page: u32 },
+    PageOrder {
+        segment: u32,
+        page: u32,
+    },
     /// A label is none of the machine's.
-    PageSpace { segment: u32, page: u32 },
+    PageSpace {
+        segment: u32,
+        page: u32,
+    },
     /// A bus and a tuple are not sent as often as received.
     Unbalanced {
         segment: u32,
@@ -56,21 +79,34 @@ pub enum Reason {
         given: u32,
     },
     /// The start root isn't the one before it, or isn't the opening's.
-    RootStart { segment: u32 },
+    RootStart {
+        segment: u32,
+    },
     /// The end root isn't the opening's.
-    RootEnd { segment: u32 },
+    RootEnd {
+        segment: u32,
+    },
     /// The segment doesn't begin where the one before it ended.
-    PcChain { segment: u32 },
+    PcChain {
+        segment: u32,
+    },
     /// The last segment doesn't end at a TERMINATE.
-    NotTerminate { segment: u32 },
+    NotTerminate {
+        segment: u32,
+    },
     /// No segment says that it is the last.
     NoEnd,
     /// The claimed exit code isn't the TERMINATE's.
-    ExitCode { stated: u8, found: u8 },
+    ExitCode {
+        stated: u8,
+        found: u8,
+    },
     /// The path of the public bytes doesn't lead to the last root.
     Public,
     /// A byte follows the claim.
-    Trailing { offset: u64 },
+    Trailing {
+        offset: u64,
+    },
 }
 
 impl Reason {
@@ -88,19 +124,30 @@ impl Reason {
             Reason::NotCanonical { offset } => format!(in alloc; "not-canonical {offset}"),
             Reason::Height { segment, table } => format!(in alloc; "height {segment} {table}"),
             Reason::SlotSum { segment } => format!(in alloc; "slot-sum {segment}"),
-            Reason::Row { segment, table, row, constraint } => {
-                format!(in alloc; "row {segment} {table} {row} {constraint}")
-            }
+            Reason::Row {
+                segment,
+                table,
+                row,
+                constraint,
+            } => { format!(in alloc; "row {segment} {table} {row} {constraint}") }
             Reason::CountEntry { offset } => format!(in alloc; "count-entry {offset}"),
             Reason::PageOrder { segment, page } => format!(in alloc; "page-order {segment} {page}"),
             Reason::PageSpace { segment, page } => format!(in alloc; "page-space {segment} {page}"),
-            Reason::Unbalanced { segment, bus, tuple, sent, received } => {
+            Reason::Unbalanced {
+                segment,
+                bus,
+                tuple,
+                sent,
+                received,
+            } => {
                 let tuple = tuple_text(alloc, tuple.as_slice())?;
                 format!(in alloc; "unbalanced {segment} {bus} {tuple} {sent} {received}")
             }
-            Reason::Siblings { segment, needed, given } => {
-                format!(in alloc; "siblings {segment} {needed} {given}")
-            }
+            Reason::Siblings {
+                segment,
+                needed,
+                given,
+            } => { format!(in alloc; "siblings {segment} {needed} {given}") }
             Reason::RootStart { segment } => format!(in alloc; "root-start {segment}"),
             Reason::RootEnd { segment } => format!(in alloc; "root-end {segment}"),
             Reason::PcChain { segment } => format!(in alloc; "pc-chain {segment}"),

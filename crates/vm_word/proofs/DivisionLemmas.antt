@@ -122,13 +122,12 @@ by_signs s t a b p q e f some other =
     let quotient_is : quotient_signed a b ≡ negated_if (differ s t) (A / B) =
     chosen (b == 0) _ _ no ∙ same_quotient (is_negative a) s (is_negative b) t (magnitude a) A (magnitude b) B e f (magnitude_is s a e) (magnitude_is t b f)
     ∙ negated_twice s t (A / B) (omega (arith, A_small, least)) in
-    let remainder_is : remainder_signed a b ≡ negated_if s (A % B) = 
+    let remainder_is : remainder_signed a b ≡ negated_if s (A % B) =
     chosen (b == 0) _ _ no ∙ same_remainder (is_negative a) s (magnitude a) A (magnitude b) B e (magnitude_is s a e) (magnitude_is t b f) in
     let fits = fits_by s t a B h B_some (excluded s t a b h k other) in
     let q_value : signed_value (quotient_signed a b) ≡ signed_by (differ s t) (A / B) = ap signed_value quotient_is ∙ value_negated (differ s t) (A / B) (omega (arith, A_small, least)) fits in
     let r_value : signed_value (remainder_signed a b) ≡ signed_by s (A % B) =
-    ap signed_value remainder_is ∙ value_negated s (A % B) (omega (arith, low, B_small)) (λ same. omega (arith, low, B_small)) in
-    (
+    ap signed_value remainder_is ∙ value_negated s (A % B) (omega (arith, low, B_small)) (λ same. omega (arith, low, B_small)) in (
       subst IsWord (sym quotient_is) (negated_word (differ s t) (A / B) (omega (arith, A_small, least))),
       subst IsWord (sym remainder_is) (negated_word s (A % B) (omega (arith, low, B_small))),
       rw (value_of s a h, value_of t b k, q_value, r_value) (divided s t A B B_some),
