@@ -80,7 +80,7 @@ impl Extension for Pair {
     ) -> Result<(), OutOfMemory> {
         match table {
             0 => emit_step(row[0], row[1], row[2], row[3], sink),
-            1 => emit_received(bus::FIRST_PRIVATE, row[1], &[row[0]], sink),
+            1 => emit_answer(row, sink),
             _ => unreachable!(),
         }
     }
@@ -135,4 +135,14 @@ fn emit_step<S: EventSink>(
 {
     emit_path(flag, pc, time, pc.add(x), 1, &numbers(pc, flag), sink)?;
     emit_sent(bus::FIRST_PRIVATE, flag, &[x], sink)
+}
+
+/// The number that is answered, as often as it is asked for.
+fn emit_answer<S: EventSink>(row: &[Fe], sink: &mut S) -> Result<(), OutOfMemory>
+    requires wide { length row.now ≡ 2 }
+    requires room { 1 ≤ S.room sink.old }
+    ensures ok { OnOk result (Handed S.holds S.room sink.old sink.new (counted (answer_sheet.lines row.now))) }
+    ensures err { OnErr result (HandedSome S.holds S.room sink.old sink.new (counted (answer_sheet.lines row.now))) }
+{
+    emit_received(bus::FIRST_PRIVATE, row[1], &[row[0]], sink)
 }

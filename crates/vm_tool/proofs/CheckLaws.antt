@@ -5,7 +5,7 @@ use Rattle.std.specs.Option.{option_map}
 use Rattle.std.specs.Prelude.{true, [], replicate}
 use Rattle.vm_host.specs.declared.Slot.{Slot}
 use Rattle.vm_host.specs.declared.Slot.TheVariants.{Elf, Second}
-use Rattle.vm_host.specs.State.{HostState, AreBytes, TellsBytes, then_more}
+use Rattle.vm_host.specs.State.{HostState, then_more}
 use Rattle.elf_image.specs.Loaded.{Loaded}
 use Rattle.gadget_time.specs.Nop.{nop_sheet}
 use Rattle.elf_image.specs.Image.{HasImage}
@@ -81,13 +81,12 @@ runs_as_said old new tables e h a = record {
   said = a.2;
 }
 
-pub accepted_runs : (words : List (List ℕ)) (command : Option Command) (old new : HostState) (result : Status) → TellsBytes old → Means words command → Answers command old new result → AcceptedRuns words old new result
-accepted_runs words command old new result bytes means answers elf tables e is done told =
+pub accepted_runs : (words : List (List ℕ)) (command : Option Command) (old new : HostState) (result : Status) → Means words command → Answers command old new result → AcceptedRuns words old new result
+accepted_runs words command old new result means answers elf tables e is done told =
     let same : command ≡ Some (check elf tables) = meaning_is_one words command (Some (check elf tables)) means (is, tt) in
     let a : Answers (Some (check elf tables)) old new status.Done = subst (λ s. Answers (Some (check elf tables)) old new s) done (subst (λ c. Answers c old new result) same answers) in
     let elf_is : e ≡ a.inputs Elf = told_is (old.content Elf elf) e (a.inputs Elf) told a.contents.0 in
-    let elf_bytes : IsBytes e = subst AreBytes told (bytes.content Elf elf) in
-    let accepts = accepted_by a.inputs old new elf tables a.outcome (subst IsBytes elf_is elf_bytes) in
+    let accepts = accepted_by a.inputs old new elf tables a.outcome in
     subst (λ x. RunsAsSaid x old new) (sym elf_is) (runs_as_said old new tables (a.inputs Elf) (a.inputs Second) accepts)
 
 pub accepted_is_a_run : AcceptedIsARun

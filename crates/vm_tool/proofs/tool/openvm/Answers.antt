@@ -3,4 +3,4 @@ use Rattle.vm_tool.proofs.tool.openvm.Goals as goal
 
 pub returns-clause-accepted : goal.returns-clause-accepted
 returns-clause-accepted g c =
-    accepted_runs _ _ _ _ _ (g.met.H.Host.bytes c.args.host.now) c.parse_words.ensures c.perform.ensures
+    accepted_runs _ _ _ _ _ c.parse_words.ensures c.perform.ensures
