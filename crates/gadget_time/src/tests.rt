@@ -71,8 +71,8 @@ fn events(rt: HostRuntime) -> Result<(), Fail> {
     assert_eq!(rt; said.as_slice().len(), 0);
     emit_touch(13, time, &access, &mut said)?;
     assert_eq!(rt;
-        said.as_slice()[3],
-        event(4, Side::Send, Tuple::of(&[1, 13]))
+        said.as_slice().get(3).copied(),
+        Some(event(4, Side::Send, Tuple::of(&[1, 13])))
     );
     Ok(())
 }
