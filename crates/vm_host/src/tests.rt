@@ -123,9 +123,9 @@ fn real_files(rt: HostRuntime) -> Result<(), Fail> {
     let mut host = RealHost::new(&rt);
     for text in ["the first and longer one", "", "second"] {
         assert_eq!(rt; host.create(name), Ok(()));
-        for piece in [&text[..text.len() / 2], &text[text.len() / 2..]] {
-            assert_eq!(rt; host.write(piece.as_bytes()), Ok(()));
-        }
+        let (first, rest) = text.as_bytes().split_at(text.len() / 2);
+        assert_eq!(rt; host.write(first), Ok(()));
+        assert_eq!(rt; host.write(rest), Ok(()));
         assert_eq!(rt; host.finish(), Ok(()));
         assert_eq!(rt; host.open_input(Slot::Second, name), Ok(()));
         let bytes = read_up_to(alloc, &mut host, Slot::Second, 100)?;
