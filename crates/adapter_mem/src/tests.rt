@@ -28,10 +28,10 @@ fn address(rt: HostRuntime) -> Result<(), Fail> {
     );
     assert_eq!(rt; part(element(1_509_949_441), low, two), Fe::ONE);
     assert_eq!(rt; pointer(low, high, two), element(0x1001_0004));
-    let wrong_low = pointer_constraints(&base, &offset, Fe::of_u16(5), high);
-    assert_eq!(rt; wrong_low[0] == Fe::ZERO, false);
-    let wrong_high = pointer_constraints(&base, &offset, low, Fe::of_u16(0x1002));
-    assert_eq!(rt; wrong_high[0], Fe::ZERO);
-    assert_eq!(rt; wrong_high[1] == Fe::ZERO, false);
+    let [first, _] = pointer_constraints(&base, &offset, Fe::of_u16(5), high);
+    assert!(rt; first != Fe::ZERO);
+    let [first, second] = pointer_constraints(&base, &offset, low, Fe::of_u16(0x1002));
+    assert_eq!(rt; first, Fe::ZERO);
+    assert!(rt; second != Fe::ZERO);
     Ok(())
 }

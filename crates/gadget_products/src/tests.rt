@@ -14,8 +14,8 @@ fn square(rt: HostRuntime) -> Result<(), Fail> {
         sums[i] = place(&word, &word, i);
     }
     let byte = Fe::of_u16(65025);
-    for (at, pairs) in [1u16, 2, 3, 4, 3, 2, 1, 0].iter().enumerate() {
-        assert_eq!(rt; sums[at], byte.mul(Fe::of_u16(*pairs)));
+    for (sum, pairs) in sums.iter().zip(&[1u16, 2, 3, 4, 3, 2, 1, 0]) {
+        assert_eq!(rt; *sum, byte.mul(Fe::of_u16(*pairs)));
     }
     let full = Fe::of_u16(255);
     let limbs = [
@@ -29,13 +29,10 @@ fn square(rt: HostRuntime) -> Result<(), Fail> {
         full,
     ];
     let out = carries(&sums, &limbs);
-    for (at, carry) in [254u16, 509, 764, 1019, 765, 510, 255, 0]
-        .iter()
-        .enumerate()
-    {
-        assert_eq!(rt; out[at], Fe::of_u16(*carry));
+    for (carry, number) in out.iter().zip(&[254u16, 509, 764, 1019, 765, 510, 255, 0]) {
+        assert_eq!(rt; *carry, Fe::of_u16(*number));
     }
-    let wrong = carries(&[sums[0]], &[Fe::ZERO]);
-    assert_eq!(rt; wrong[0].mul(Fe::of_u16(256)), byte);
+    let [wrong] = carries(&[byte], &[Fe::ZERO]);
+    assert_eq!(rt; wrong.mul(Fe::of_u16(256)), byte);
     Ok(())
 }
