@@ -95,7 +95,7 @@ fn events<T: TableForm, const HI: u32, S: EventSink>(
 }
 
 /// Sets the flag at a place, and no other.
-fn set_flag(flags: &mut [Fe], place: usize)
+pub fn set_flag(flags: &mut [Fe], place: usize)
     requires { place < length flags.old }
     ensures { flags.new ≡ one_hot (length flags.old) place }
 {

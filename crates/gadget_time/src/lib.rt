@@ -11,7 +11,7 @@ mod nop;
 mod tests;
 mod touch;
 
-pub use chip::FormChip;
+pub use chip::{FormChip, set_flag};
 pub use emission::{emit_touch, emit_touches, touches_broken};
 pub use form::TableForm;
 pub use nop::{Nop, NopAt, NopForm};
