@@ -1,11 +1,11 @@
 -- The word that the host gives is HINT's alone: no other meaning depends on it.
-use Rattle.std.proofs.Common.{◌≡◌, ℕ, ◌&&◌, Bool, true, false, cond, nat_eq, List, [], ◌∷◌, length, Option, Some, None, refl, ap, ◌∙◌, arith}
+use Rattle.std.proofs.Common.{◌≡◌, ℕ, ◌&&◌, Bool, true, false, cond, nat_eq, List, [], ◌∷◌, length, Some, None, refl, ap, ◌∙◌}
 use Rattle.std.specs.Prelude.{not}
 use Rattle.std.proofs.lemmas.Bool.{eqb-true}
 use Rattle.vm_isa.specs.declared.instr.VmInstr.{VmInstr}
 use Rattle.vm_isa.specs.declared.meaning.Place.{Place}
 use Rattle.vm_isa.specs.Opcodes.{HINT}
-use Rattle.vm_isa.specs.Means.{Accessed, Meaning, means_of, accessed_by, new_at, next_of, places_of, is_refused}
+use Rattle.vm_isa.specs.Means.{Accessed, means_of, accessed_by, new_at, next_of, places_of, is_refused}
 
 new_same : (i : VmInstr) (olds : List (List ℕ)) (given other : List ℕ) (slot : ℕ) (old : List ℕ) → nat_eq i.op HINT ≡ false → new_at i olds given slot old ≡ new_at i olds other slot old
 unfolding new_at

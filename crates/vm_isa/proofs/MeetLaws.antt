@@ -1,15 +1,15 @@
 -- Of two accesses of a meaning to one block the earlier keeps its word, so accesses that find their old
 -- words before the step find them one after another.
-use Rattle.std.proofs.Common.{◌≡◌, ℕ, zero, suc, ◌+◌, ◌*◌, ◌<◌, ◌≤◌, ◌&&◌, ◌||◌, not, Bool, true, false, cond, nat_eq, nat_le, List, [], ◌∷◌, ◌++◌, map, length, Option, Some, None, refl, sym, ap, ◌∙◌, subst, arith, if◌then◌else◌}
-use Rattle.std.specs.List.{AllByRecursion, range_with_len}
+use Rattle.std.proofs.Common.{◌≡◌, ℕ, ◌+◌, ◌*◌, ◌<◌, ◌&&◌, ◌||◌, Bool, true, false, nat_eq, List, [], ◌∷◌, ◌++◌, Some, refl, sym, ap, ◌∙◌, subst, arith, if◌then◌else◌}
+use Rattle.std.specs.List.{AllByRecursion}
 use Rattle.std.proofs.lemmas.Bool.{eqb-true}
 use Rattle.std.proofs.lemmas.Bool.Decides.{nat_tests}
 use Rattle.vm_word.specs.Arithmetic.{word_sum}
 use Rattle.vm_isa.specs.declared.instr.VmInstr.{VmInstr}
 use Rattle.vm_isa.specs.declared.meaning.Place.{Place}
-use Rattle.vm_isa.specs.Means.{Accessed, Meaning, means_of, accessed_by, memory, memory_from, new_at, places_by, places_of, register, sha_places, place}
+use Rattle.vm_isa.specs.Means.{Accessed, Meaning, means_of, accessed_by, memory, memory_from, new_at, places_by, places_of, register, sha_places}
 use Rattle.vm_isa.specs.Opcodes.{is_load, is_store, is_branch, is_upper, is_register, JAL, JALR, HINT, REVEAL, SHA}
-use Rattle.vm_isa.specs.Blocks.{Blocks, Meets, is_block, with_block}
+use Rattle.vm_isa.specs.Blocks.{Blocks, Meets, with_block}
 use Rattle.vm_isa.specs.Laws.{FindsItsWord}
 use Rattle.vm_isa.proofs.MeansLaws.{whole}
 use Rattle.vm_isa.proofs.NextLaws.{meant}

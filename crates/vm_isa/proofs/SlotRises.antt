@@ -1,14 +1,13 @@
 -- The accesses of a meaning stand at rising slots, below those of the opcode.
-use Rattle.std.proofs.Common.{◌≡◌, ℕ, zero, suc, ◌+◌, ◌*◌, ◌<◌, ◌≤◌, ◌&&◌, ◌||◌, not, Bool, true, false, cond, nat_eq, nat_le, nat_lt, List, [], ◌∷◌, ◌++◌, map, length, Option, Some, None, refl, sym, ap, ◌∙◌, subst, arith, ⊎_elim}
-use Rattle.std.specs.Prelude.{if◌then◌else◌}
+use Rattle.std.proofs.Common.{◌≡◌, ℕ, zero, suc, ◌+◌, ◌*◌, ◌<◌, ◌≤◌, ◌&&◌, ◌||◌, not, Bool, true, false, cond, nat_eq, List, [], ◌∷◌, ◌++◌, map, length, Some, None, refl, ap, ◌∙◌, subst, arith}
 use Rattle.std.specs.List.{range_with_len}
 use Rattle.std.proofs.lemmas.Bool.{eqb-true}
 use Rattle.vm_word.specs.Arithmetic.{word_sum}
 use Rattle.std.proofs.lemmas.Bool.Decides.{nat_tests}
 use Rattle.vm_isa.specs.declared.instr.VmInstr.{VmInstr}
 use Rattle.vm_isa.specs.declared.meaning.Place.{Place}
-use Rattle.vm_isa.specs.Means.{Accessed, Meaning, means_of, accessed_by, new_at, next_of, places_by, places_of, is_refused, place, memory, register, memory_from, sha_places}
-use Rattle.vm_isa.specs.Opcodes.{is_from, is_alu, is_load, is_store, is_branch, is_upper, is_mul}
+use Rattle.vm_isa.specs.Means.{Meaning, means_of, accessed_by, new_at, next_of, places_by, places_of, is_refused, place, memory, memory_from, sha_places}
+use Rattle.vm_isa.specs.Opcodes.{is_alu, is_load, is_store, is_branch, is_upper, is_mul}
 use Rattle.vm_isa.specs.Slots.{slots_of}
 use Rattle.vm_isa.specs.Laws.{SlotsRise}
 
