@@ -14,7 +14,7 @@ mod tests;
 
 pub use cells::put;
 pub use less::{less_broken, less_ranges};
-pub use lookup::{OperationFlags, emit_lookups, looked_up};
+pub use lookup::{OperationFlags, choose, emit_lookups, looked_up};
 pub use order::fill_less;
 pub use ranges::emit_ranges;
 pub use sign::{sign_constraints, sign_looked_up};

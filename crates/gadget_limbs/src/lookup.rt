@@ -19,9 +19,9 @@ pub struct OperationFlags<F = Fe> {
     pub and: F,
 }
 
-/// a where the row is a sum or a difference, else b
+/// sums * a + (valid - sums) * b: of a valid row a where `sums` is 1, and b where it is 0.
 #[tactic(auto, unfolding(crate::specs::Lookup::choose))]
-fn choose(valid: Fe, sums: Fe, a: Fe, b: Fe) -> Fe
+pub fn choose(valid: Fe, sums: Fe, a: Fe, b: Fe) -> Fe
     ensures { result ≡ choose field valid sums a b }
 {
     sums.mul(a).add(valid.sub(sums).mul(b))

@@ -6,3 +6,4 @@ pub mod SignedDivision
 pub mod Products
 pub mod PlaceCode
 pub mod CarryCode
+pub mod PlacesCode

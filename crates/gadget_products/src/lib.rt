@@ -3,9 +3,11 @@
 
 mod carry;
 pub mod laws;
+mod multiply;
 mod product;
 #[cfg(test)]
 mod tests;
 
 pub use carry::carries;
-pub use product::place;
+pub use multiply::{both, product_carries, word_of};
+pub use product::{place, places};

@@ -2,7 +2,7 @@
 
 ghost use Rattle.air_core.specs.Ring.{field};
 ghost use Rattle.std.specs.Prelude.{◌≡◌};
-ghost use Rattle.gadget_products.specs.Product.{place};
+ghost use Rattle.gadget_products.specs.Product.{place, places};
 
 use vm_field::Fe;
 
@@ -20,4 +20,15 @@ pub fn place(b: &[Fe], c: &[Fe], i: usize) -> Fe
         }
     }
     sum
+}
+
+/// The places of the product from the lowest on.
+pub fn places<const N: usize>(b: &[Fe], c: &[Fe]) -> [Fe; N]
+    ensures { result ≡ places field b.now c.now 0 N }
+{
+    let mut sums = [Fe::ZERO; N];
+    for i in 0..N {
+        sums[i] = place(b, c, i);
+    }
+    sums
 }

@@ -1,0 +1,3 @@
+pub mod Mul
+pub mod Laws
+pub mod lemmas
