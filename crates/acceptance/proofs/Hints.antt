@@ -3,31 +3,16 @@ use Rattle.std.proofs.Common.{◌≡◌, ℕ, false, nat_eq, List, [], ◌∷◌
 use Rattle.std.specs.List.{AllByRecursion}
 use Rattle.vm_isa.specs.declared.instr.VmInstr.{VmInstr}
 use Rattle.vm_isa.specs.Means.{Accessed, Meaning, means_of, places_by, places_of, accessed_by, new_at, word_at}
+use Rattle.vm_isa.proofs.GivenLaws.{means_same}
 use Rattle.vm_isa.proofs.MeansLaws.{done_whole, whole}
 use Rattle.vm_isa.proofs.NextLaws.{meant, is_done}
 use Rattle.air_core.specs.Orders.{Member}
 use Rattle.air_core.specs.Step.{Touched, FourEach, IsMeaning, accessed}
 use Rattle.acceptance.proofs.Row.{slot_word}
 
-accessed_same : (f g : ℕ → List ℕ → List ℕ) → ((slot : ℕ) (old : List ℕ) → f slot old ≡ g slot old) → (places : List _) (olds : List (List ℕ)) → accessed_by f places olds ≡ accessed_by g places olds
-unfolding accessed_by
-accessed_same f g same [] olds = refl
-accessed_same f g same (p ∷ places) [] = refl
-accessed_same f g same (p ∷ places) (old ∷ olds) =
-    ap (λ (new : List ℕ). record { slot = p.slot; space = p.space; pointer = p.pointer; old = old; new = new } ∷ accessed_by f places olds) (same p.slot old)
-    ∙ ap (λ (xs : List Accessed). record { slot = p.slot; space = p.space; pointer = p.pointer; old = old; new = g p.slot old } ∷ xs) (accessed_same f g same places olds)
-
-new_same : (i : VmInstr) (olds : List (List ℕ)) (given other : List ℕ) → nat_eq i.op 37 ≡ false → (slot : ℕ) (old : List ℕ) → new_at i olds given slot old ≡ new_at i olds other slot old
-unfolding new_at
-new_same i olds given other none slot old = rw none refl
-
 -- only a HINT stores it
 pub any_given : (i : VmInstr) (olds : List (List ℕ)) (given other : List ℕ) (m : Meaning) → nat_eq i.op 37 ≡ false → means_of i olds given ≡ Some m → means_of i olds other ≡ Some m
-any_given i olds given other m none h =
-    let is = meant i olds given m h in
-    let same : whole i olds other ≡ whole i olds given =
-    ap (λ (xs : List Accessed). record { accesses = xs; next = (whole i olds given).next }) (accessed_same (new_at i olds other) (new_at i olds given) (new_same i olds other given none) (places_of i olds) olds) in
-    done_whole i olds other (is_done i olds is.fits is.long) ∙ ap Some (same ∙ sym is.is)
+any_given i olds given other m none h = means_same i olds other given none ∙ h
 
 hint_places : (i : VmInstr) (b c : ℕ) → i.op ≡ 37 → length (places_by i b c) ≡ 2
 unfolding places_by

@@ -45,23 +45,20 @@ regs_of o immediates own pc time rest =
       third = gap_by column (words + 12 + own + 6);
     }
 
+-- an access of a register
+abbrev pub register_touch : {A E : Type 0} → Ring A E → A → ℕ → A → Limbs A → Limbs A → Gap A → Touch A
+register_touch o count slot number old new gap =
+    record { count = count; slot = o.number slot; space = o.number REGISTERS; pointer = o.times (o.number 4) number; old = old; new = new; gap = gap }
+
 unfoldable pub first_touch : {A E : Type 0} → Ring A E → Regs A → A → Touch A
-first_touch o r valid = record { count = valid; slot = o.number 0; space = o.number REGISTERS; pointer = o.times (o.number 4) r.rs1; old = r.left; new = r.left; gap = r.first }
+first_touch o r valid = register_touch o valid 0 r.rs1 r.left r.left r.first
 
 -- with an immediate there is no second access
 unfoldable pub second_touch : {A E : Type 0} → Ring A E → Regs A → A → Touch A
-second_touch o r valid = record {
-  count = o.times valid (o.minus (o.number 1) r.use_imm);
-  slot = o.number 1;
-  space = o.number REGISTERS;
-  pointer = o.times (o.number 4) r.rs2;
-  old = r.right;
-  new = r.right;
-  gap = r.second;
-}
+second_touch o r valid = register_touch o (o.times valid (o.minus (o.number 1) r.use_imm)) 1 r.rs2 r.right r.right r.second
 
 unfoldable pub third_touch : {A E : Type 0} → Ring A E → Regs A → A → Limbs A → Touch A
-third_touch o r valid new = record { count = valid; slot = o.number 2; space = o.number REGISTERS; pointer = o.times (o.number 4) r.rd; old = r.old; new = new; gap = r.third }
+third_touch o r valid new = register_touch o valid 2 r.rd r.old new r.third
 
 abbrev pub regs_touches : {A E : Type 0} → Ring A E → Regs A → A → Limbs A → List (Touch A)
 regs_touches o r valid new = first_touch o r valid ∷ second_touch o r valid ∷ third_touch o r valid new ∷ []

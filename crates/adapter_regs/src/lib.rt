@@ -2,6 +2,7 @@
 //! third register is written. A table of the form is a `RegsCore`.
 #![tactic(auto)]
 
+mod access;
 mod form;
 pub mod laws;
 mod own;
@@ -10,6 +11,7 @@ pub mod records;
 mod regs;
 mod step;
 
+pub use access::{access_at, gap_at, gap_of, register_touch};
 pub use form::{RegsChip, RegsForm};
 pub use own::RegsCore;
 pub use regs::{Regs, immediate, numbers, read, touches, words_from};

@@ -4,16 +4,8 @@ ghost use Rattle.std.specs.Prelude.{◌≡◌, ℕ, ◌+◌, ◌≤◌, ◌++◌
 ghost use Rattle.adapter_regs.specs.Regs.{words_from, regs_cells, time_cells};
 
 use crate::Regs;
+use gadget_limbs::put;
 use vm_field::Fe;
-
-/// Writes cells at a place.
-pub fn put(rest: &mut [Fe], at: usize, cells: &[Fe])
-    requires { at + length cells.now ≤ length rest.old }
-    ensures long { length rest.new ≡ length rest.old }
-    ensures so_far { take (at + length cells.now) rest.new ≡ take at rest.old ++ cells.now }
-{
-    rest[at..at + cells.len()].copy_from_slice(cells);
-}
 
 #[tactic(auto, unfolding(crate::specs::Regs::regs_cells, vm_field::specs::Limbs::list_of))]
 fn with_immediates(r: &Regs) -> [Fe; 20]

@@ -2,12 +2,12 @@
 
 ghost use Rattle.std.specs.Prelude.{◌≡◌, ℕ, ◌+◌, ◌<◌, ◌≤◌, ◌++◌, ◌∷◌, length, slice_index};
 ghost use Rattle.air_core.specs.Ring.{field};
-ghost use Rattle.adapter_regs.specs.Regs.{regs_of, gap_by, words_from, first_touch, second_touch, third_touch, regs_touches, regs_numbers, immediate_constraints, regs_cells, time_cells};
+ghost use Rattle.adapter_regs.specs.Regs.{regs_of, words_from, first_touch, second_touch, third_touch, regs_touches, regs_numbers, immediate_constraints, regs_cells, time_cells};
 
+use crate::{gap_at, register_touch};
 use air_core::gated_difference;
 use gadget_time::{Gap, Touch};
 use vm_field::{Fe, Limbs};
-use vm_isa::space;
 
 /// The columns that each table of the register form has. Without immediates `use_imm` and `imm` are 0.
 #[derive(Clone, Copy, Debug)]
@@ -25,17 +25,6 @@ pub struct Regs<F = Fe> {
     pub first: Gap<F>,
     pub second: Gap<F>,
     pub third: Gap<F>,
-}
-
-fn gap(rest: &[Fe], at: usize) -> Gap
-    requires { at + 3 ≤ length rest.now }
-    ensures { result ≡ gap_by (slice_index rest.now) at }
-{
-    Gap {
-        before: rest[at],
-        lo: rest[at + 1],
-        hi: rest[at + 2],
-    }
 }
 
 /// Where the words begin behind the flags.
@@ -69,9 +58,9 @@ pub fn read(immediates: bool, own: usize, pc: Fe, time: Fe, rest: &[Fe]) -> Regs
         left: Limbs::read(rest, words),
         right: Limbs::read(rest, words + 4),
         old: Limbs::read(rest, words + 8),
-        first: gap(rest, times),
-        second: gap(rest, times + 3),
-        third: gap(rest, times + 6),
+        first: gap_at(rest, times),
+        second: gap_at(rest, times + 3),
+        third: gap_at(rest, times + 6),
     }
 }
 
@@ -79,45 +68,22 @@ pub fn read(immediates: bool, own: usize, pc: Fe, time: Fe, rest: &[Fe]) -> Regs
 fn first_touch(r: &Regs, valid: Fe) -> Touch
     ensures { result ≡ first_touch field r.now valid }
 {
-    Touch {
-        count: valid,
-        slot: Fe::ZERO,
-        space: Fe::of_u16(space::REGISTERS as u16),
-        pointer: Fe::of_u16(4).mul(r.rs1),
-        old: r.left,
-        new: r.left,
-        gap: r.first,
-    }
+    register_touch(valid, 0, r.rs1, r.left, r.left, r.first)
 }
 
 #[tactic(auto, unfolding(crate::specs::Regs::second_touch))]
 fn second_touch(r: &Regs, valid: Fe) -> Touch
     ensures { result ≡ second_touch field r.now valid }
 {
-    Touch {
-        count: valid.mul(Fe::ONE.sub(r.use_imm)),
-        slot: Fe::ONE,
-        space: Fe::of_u16(space::REGISTERS as u16),
-        pointer: Fe::of_u16(4).mul(r.rs2),
-        old: r.right,
-        new: r.right,
-        gap: r.second,
-    }
+    let count = valid.mul(Fe::ONE.sub(r.use_imm));
+    register_touch(count, 1, r.rs2, r.right, r.right, r.second)
 }
 
 #[tactic(auto, unfolding(crate::specs::Regs::third_touch))]
 fn third_touch(r: &Regs, valid: Fe, new: Limbs) -> Touch
     ensures { result ≡ third_touch field r.now valid new }
 {
-    Touch {
-        count: valid,
-        slot: Fe::of_u16(2),
-        space: Fe::of_u16(space::REGISTERS as u16),
-        pointer: Fe::of_u16(4).mul(r.rd),
-        old: r.old,
-        new,
-        gap: r.third,
-    }
+    register_touch(valid, 2, r.rd, r.old, new, r.third)
 }
 
 /// The constraints that an immediate is the right word.

@@ -2,32 +2,13 @@
 
 ghost use Rattle.std.specs.Prelude.{◌≡◌, ℕ, ◌<◌};
 ghost use Rattle.vm_field.specs.Field.{modulus};
-ghost use Rattle.adapter_regs.specs.Regs.{access_at, last_access, right_filled, second_filled, regs_filled, new_filled};
+ghost use Rattle.adapter_regs.specs.Regs.{last_access, right_filled, second_filled, regs_filled, new_filled};
 
-use crate::Regs;
+use crate::{Regs, access_at};
 use air_core::element;
 use gadget_time::{Gap, gap_between};
 use vm_field::{Fe, Limbs};
-use vm_isa::{Access, AccessList, StepRecord, TimedAccess};
-
-/// The access at a place, and one of zeros where there is none.
-fn access_at(accesses: &AccessList, place: u32) -> TimedAccess
-    ensures { result ≡ access_at accesses.now place }
-{
-    match accesses.at(place) {
-        Some(access) => access,
-        None => TimedAccess {
-            access: Access {
-                space: 0,
-                pointer: 0,
-                old: [0, 0, 0, 0],
-                new: [0, 0, 0, 0],
-            },
-            time: 0,
-            before: 0,
-        },
-    }
-}
+use vm_isa::{StepRecord, TimedAccess};
 
 #[tactic(auto, unfolding(crate::specs::Regs::last_access))]
 fn last_access(done: &StepRecord) -> TimedAccess

@@ -1,27 +1,17 @@
 -- SLT and SLTU, as a core of the register form: its own columns are those of LT, whose answer is the result.
-use Rattle.std.specs.Prelude.{ℕ, true, nat_eq, List, [], ◌∷◌, ◌++◌}
+use Rattle.std.specs.Prelude.{ℕ, true, nat_eq, List, [], ◌∷◌}
 use Rattle.std.specs.Int.{from_bool}
 use Rattle.vm_field.specs.declared.limbs.Limbs.{Limbs}
 use Rattle.vm_isa.specs.Opcodes.{SLT, SLTU}
 use Rattle.air_core.specs.Flags.{sum_from, opcode_place}
-use Rattle.air_core.specs.Ring.{Ring, field, cell, cells}
-use Rattle.gadget_limbs.specs.Less.{LessColumns, less_constraints, less_ranges, less_filled}
+use Rattle.air_core.specs.Ring.{Ring, field, cell}
+use Rattle.gadget_limbs.specs.Less.{less_columns, less_cells, less_constraints, less_ranges, less_filled}
 use Rattle.gadget_limbs.specs.OrderLaws.{digits_of}
 use Rattle.gadget_limbs.specs.Ranges.{range_lines}
 use Rattle.adapter_regs.specs.Core.{Core, CoreParts, Operands}
 
 abbrev pub less_opcodes : List ℕ
 less_opcodes = SLT ∷ SLTU ∷ []
-
--- the columns of LT
-abbrev pub less_columns : {A E : Type 0} → Ring A E → List A → LessColumns A
-less_columns o own = record {
-  left_top = cell o own 0;
-  right_top = cell o own 1;
-  marks = cells (cell o own) 2 4;
-  distance = cell o own 6;
-  less = cell o own 7;
-}
 
 -- the answer as a word
 abbrev pub result_of : {A E : Type 0} → Ring A E → List A → Limbs A
@@ -30,12 +20,9 @@ result_of o own = record { x0 = cell o own 7; x1 = o.number 0; x2 = o.number 0; 
 abbrev pub less_parts : {A E : Type 0} → Ring A E → CoreParts A E
 less_parts o = record {
   new = λ x. result_of o x.own;
-  constraints = λ x. less_constraints o (digits_of x.left) (digits_of x.right) (less_columns o x.own);
-  lookups = λ x. range_lines o (sum_from o (o.number 0) x.flags) (o.number 8) (less_ranges o (cell o x.flags 0) (less_columns o x.own));
+  constraints = λ x. less_constraints o (digits_of x.left) (digits_of x.right) (less_columns 4 0 (cell o x.own));
+  lookups = λ x. range_lines o (sum_from o (o.number 0) x.flags) (o.number 8) (less_ranges o (cell o x.flags 0) (less_columns 4 0 (cell o x.own)));
 }
-
-abbrev pub less_cells : LessColumns ℕ → List ℕ
-less_cells c = c.left_top ∷ c.right_top ∷ (c.marks ++ (c.distance ∷ c.less ∷ []))
 
 -- 1 at the place of SLT, which orders signed words
 abbrev pub signed_at : ℕ → ℕ

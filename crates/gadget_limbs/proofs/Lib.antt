@@ -1,5 +1,6 @@
 pub mod LimbsLaws
 pub mod SumLemmas
+pub mod LessSteps
 pub mod SumLaw
 pub mod SumHolds
 pub mod BitLaws
@@ -10,4 +11,5 @@ pub mod RangeLaws
 pub mod Ordering
 pub mod OrderFilled
 pub mod OrderedWords
+pub mod WordOrder
 pub mod RangesSplit

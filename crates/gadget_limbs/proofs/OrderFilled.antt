@@ -13,7 +13,7 @@ use Rattle.air_core.specs.Ring.{field}
 use Rattle.air_core.specs.Sheet.{AllZero, AllBelow}
 use Rattle.air_core.specs.ListLemmas.{all_append, all_weaker}
 use Rattle.gadget_limbs.specs.Number.{number_of}
-use Rattle.gadget_limbs.specs.Less.{Digits, LessColumns, count, mark, apart, marks_of, distance_of, marks_sum, equal_above, marked_differs, differences, top_constraint, less_constraints, less_ranges, less_filled, ordered_limbs, ordered}
+use Rattle.gadget_limbs.specs.Less.{Digits, LessColumns, count, mark, apart, marks_of, distance_of, below_of, marks_sum, equal_above, marked_differs, differences, top_constraint, less_constraints, less_ranges, less_filled, ordered_limbs, ordered}
 use Rattle.gadget_limbs.specs.OrderLaws.{AreDigits, LessBelow, LessMeets}
 use Rattle.gadget_limbs.proofs.Ordering.{minus, moved}
 
@@ -198,7 +198,7 @@ top_back : (x signed : ℕ) → signed ≤ 1 → field_add (field_sub ((x + 128 
 top_back x signed q = omega arith
 
 -- the tops behind the limbs below them
-differences_end : (xs ys : List ℕ) (a b : ℕ) → length xs ≡ length ys → differences field (xs ++ (a ∷ [])) (ys ++ (b ∷ [])) ≡ differences field xs ys ++ (field_sub b a ∷ [])
+pub differences_end : (xs ys : List ℕ) (a b : ℕ) → length xs ≡ length ys → differences field (xs ++ (a ∷ [])) (ys ++ (b ∷ [])) ≡ differences field xs ys ++ (field_sub b a ∷ [])
 unfolding differences
 differences_end [] [] a b e = refl
 differences_end (x ∷ xs) (y ∷ ys) a b e = rw (differences_end xs ys a b (omega arith)) refl
@@ -226,6 +226,26 @@ ordered_bytes signed x p = all_append (λ n. n < 256) x.low ((x.top + 128 * sign
 ordered_long : (signed : ℕ) (x : Digits ℕ) → length (ordered_limbs signed x) ≡ length x.low + 1
 ordered_long signed x = length-append x.low ((x.top + 128 * signed) % 256 ∷ [])
 
+test_same : (x y X Y : ℕ) → X ≡ Y → nat_lt (x + 256 * X) (y + 256 * Y) ≡ nat_lt x y
+test_same x y X Y e = grind (arith, nat_tests)
+
+test_above : (x y X Y : ℕ) → x < 256 → y < 256 → X ≢ Y → nat_lt (x + 256 * X) (y + 256 * Y) ≡ nat_lt X Y
+test_above x y X Y p q e = grind (arith, nat_tests)
+
+-- the highest limb at which they differ says which is below the other
+pub below_is : (xs ys : List ℕ) → length xs ≡ length ys → IsBytes xs → IsBytes ys → below_of xs ys ≡ from_bool (nat_lt (number_of xs) (number_of ys))
+unfolding below_of
+below_is [] [] e p q = refl
+below_is (x ∷ xs) (y ∷ ys) e p q =
+    let law = marks_law xs ys (omega arith) p.1 q.1 in
+    let k = count (marks_of xs ys) in
+    elim (cases_eq k 0) [
+      | inl none ↦ pick_none k _ _ none ∙ ap from_bool (sym (test_same x y (number_of xs) (number_of ys) (law.same none)))
+      | inr some ↦ pick_some k _ _ some ∙ below_is xs ys (omega arith) p.1 q.1 ∙ ap from_bool (sym (test_above x y (number_of xs) (number_of ys) p.0 q.0 (law.differ (omega (arith, law.few)))))
+    ]
+below_is [] (y ∷ ys) e p q = absurd (omega arith)
+below_is (x ∷ xs) [] e p q = absurd (omega arith)
+
 pub less_holds : (signed : ℕ) (x y : Digits ℕ) → signed ≤ 1 → AreDigits x → AreDigits y → length x.low ≡ length y.low
     → LessBelow x (less_filled signed x y) × LessMeets signed x y (less_filled signed x y)
 unfolding less_filled less_constraints less_ranges
@@ -237,14 +257,15 @@ less_holds signed x y sign p q same =
     let b = (y.top + k) % 256 in
     let l = field_sub a k in
     let r = field_sub b k in
-    let less = from_bool (nat_lt (number_of xs) (number_of ys)) in
+    let less = below_of xs ys in
     let long : length xs ≡ length ys = omega (arith, same, ordered_long signed x, ordered_long signed y) in
     let px = ordered_bytes signed x p in
     let py = ordered_bytes signed y q in
     let law = marks_law xs ys long px py in
-    let small : less ≤ 1 = test_small (number_of xs) (number_of ys) in
-    let agrees : Agrees (distance_of xs ys) less xs ys = λ e. (refl, which less (number_of xs) (number_of ys) (law.differ e) refl) in
-    let none : count (marks_of xs ys) ≡ 0 → less ≡ 0 = λ e. let equal = law.same e in test_down (number_of xs) (number_of ys) (omega (arith, equal)) in
+    let is = below_is xs ys long px py in
+    let small : less ≤ 1 = omega (arith, is, test_small (number_of xs) (number_of ys)) in
+    let agrees : Agrees (distance_of xs ys) less xs ys = λ e. (refl, which less (number_of xs) (number_of ys) (law.differ e) is) in
+    let none : count (marks_of xs ys) ≡ 0 → less ≡ 0 = λ e. let equal = law.same e in is ∙ test_down (number_of xs) (number_of ys) (omega (arith, equal)) in
     let gap : field_sub r l ≡ field_sub b a =
     moved l r (field_mul 128 signed) (omega arith) (omega arith) (omega arith) ∙ ap (λ (n : ℕ). field_sub n (field_add l (field_mul 128 signed))) (top_back y.top signed sign) ∙ ap (λ (n : ℕ). field_sub b n) (top_back x.top signed sign) in
     let are : differences field x.low y.low ++ (field_sub r l ∷ []) ≡ differences field xs ys =

@@ -1,16 +1,20 @@
 -- LT: whether a number by its limbs is below another, as numbers or as signed ones. At most one limb is marked, the
 -- highest at which they differ.
-use Rattle.std.specs.Prelude.{ℕ, ◌+◌, ◌-◌, ◌*◌, ◌%◌, nat_eq, nat_lt, if◌then◌else◌, List, [], ◌∷◌, ◌++◌, map}
+use Rattle.std.specs.Prelude.{ℕ, ◌+◌, ◌-◌, ◌*◌, ◌%◌, nat_eq, nat_lt, if◌then◌else◌, List, [], ◌∷◌, ◌++◌, map, take, slice_index}
 use Rattle.std.specs.Int.{from_bool}
 use Rattle.vm_field.specs.Field.{field_sub}
 use Rattle.air_core.specs.First.{bit}
-use Rattle.air_core.specs.Ring.{Ring}
+use Rattle.air_core.specs.Ring.{Ring, cells}
 use Rattle.gadget_limbs.specs.Number.{number_of}
 
 -- the limbs of a number: the top one apart from those below it
 pub record Digits (A : Type 0) : Type 0 where
   pub low : List A
   pub top : A
+
+-- by its limbs, the lowest first, of which so many stand below the top
+abbrev pub digits_by : ℕ → List ℕ → Digits ℕ
+digits_by below limbs = record { low = take below limbs; top = slice_index limbs below }
 
 pub record LessColumns (A : Type 0) : Type 0 where
   -- the top limbs, a negative number's less 256
@@ -21,6 +25,20 @@ pub record LessColumns (A : Type 0) : Type 0 where
   pub distance : A
   -- whether the left number is below the right one
   pub less : A
+
+-- those of n limbs, from a place on
+abbrev pub less_columns : {A : Type 0} → ℕ → ℕ → (ℕ → A) → LessColumns A
+less_columns n at column = record {
+  left_top = column at;
+  right_top = column (at + 1);
+  marks = cells column (at + 2) n;
+  distance = column (at + 2 + n);
+  less = column (at + 3 + n);
+}
+
+-- in their order
+abbrev pub less_cells : {A : Type 0} → LessColumns A → List A
+less_cells c = c.left_top ∷ c.right_top ∷ (c.marks ++ (c.distance ∷ c.less ∷ []))
 
 unfoldable pub marks_sum : {A E : Type 0} → Ring A E → List A → A
 marks_sum o [] = o.number 0
@@ -89,11 +107,16 @@ unfoldable pub distance_of : List ℕ → List ℕ → ℕ
 distance_of (x ∷ xs) (y ∷ ys) = if nat_eq (count (marks_of xs ys)) 0 then apart x y else distance_of xs ys
 distance_of _ _ = 0
 
+-- and whether the left one is below the right one there
+unfoldable pub below_of : List ℕ → List ℕ → ℕ
+below_of (x ∷ xs) (y ∷ ys) = if nat_eq (count (marks_of xs ys)) 0 then from_bool (nat_lt x y) else below_of xs ys
+below_of _ _ = 0
+
 unfoldable pub less_filled : ℕ → Digits ℕ → Digits ℕ → LessColumns ℕ
 less_filled signed x y = record {
   left_top = field_sub ((x.top + 128 * signed) % 256) (128 * signed);
   right_top = field_sub ((y.top + 128 * signed) % 256) (128 * signed);
   marks = marks_of (ordered_limbs signed x) (ordered_limbs signed y);
   distance = distance_of (ordered_limbs signed x) (ordered_limbs signed y);
-  less = from_bool (nat_lt (ordered signed x) (ordered signed y));
+  less = below_of (ordered_limbs signed x) (ordered_limbs signed y);
 }

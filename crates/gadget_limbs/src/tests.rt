@@ -1,6 +1,7 @@
-//! Sums of four and of eight limbs, and signs.
+//! Sums and the order of numbers of four and of eight limbs, and signs.
 
-use crate::{first_broken, sign_constraints, sign_looked_up};
+use crate::{fill_less, first_broken, less_broken, less_ranges, sign_constraints, sign_looked_up};
+use air_core::element;
 use std::test::Fail;
 use vm_field::Fe;
 
@@ -56,5 +57,39 @@ fn signs(rt: HostRuntime) -> Result<(), Fail> {
     assert_eq!(rt; sign_constraints(Fe::ONE, Fe::ONE), [Fe::ZERO; 2]);
     assert_eq!(rt; sign_constraints(Fe::ONE, Fe::ZERO), [Fe::ZERO, Fe::ONE]);
     assert_eq!(rt; sign_constraints(two, Fe::ONE), [two, Fe::ZERO]);
+    Ok(())
+}
+
+/// FFFFFFFF is above 0, and below it where numbers are signed; 1 is below 2^32, by the fifth limb of eight. With the other
+/// answer the constraint of the marked limb is broken, and where no limb is marked that of the answer.
+#[test]
+fn orders(rt: HostRuntime) -> Result<(), Fail> {
+    let most = elements(&[255, 255, 255, 255]);
+    let zero = [Fe::ZERO; 4];
+    let mut columns = [Fe::ZERO; 8];
+    fill_less(false, &most, &zero, &mut columns);
+    assert_eq!(rt; columns, elements(&[255, 0, 0, 0, 0, 1, 254, 0]));
+    assert_eq!(rt; less_broken(7, &most, &zero, &columns), None);
+    fill_less(true, &most, &zero, &mut columns);
+    let mut signed = elements(&[0, 0, 0, 0, 0, 1, 0, 1]);
+    signed[0] = element(2_013_265_920);
+    assert_eq!(rt; columns, signed);
+    assert_eq!(rt;
+        less_ranges::<4>(Fe::ONE, &columns),
+        elements(&[127, 128, 0])
+    );
+    assert_eq!(rt; less_broken(7, &most, &zero, &columns), None);
+    let low = elements(&[1, 0, 0, 0, 0, 0, 0, 0]);
+    let high = elements(&[0, 0, 0, 0, 1, 0, 0, 0]);
+    let mut columns = [Fe::ZERO; 12];
+    fill_less(false, &low, &high, &mut columns);
+    assert_eq!(rt; columns, elements(&[0, 0, 0, 0, 0, 0, 1, 0, 0, 0, 0, 1]));
+    assert_eq!(rt; less_broken(0, &low, &high, &columns), None);
+    columns[11] = Fe::ZERO;
+    assert_eq!(rt; less_broken(0, &low, &high, &columns), Some(25));
+    fill_less(false, &low, &low, &mut columns);
+    assert_eq!(rt; columns, [Fe::ZERO; 12]);
+    columns[11] = Fe::ONE;
+    assert_eq!(rt; less_broken(0, &low, &low, &columns), Some(12));
     Ok(())
 }

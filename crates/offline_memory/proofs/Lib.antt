@@ -6,3 +6,5 @@ pub mod PageLemmas
 pub mod AnyOrder
 pub mod EventLemmas
 pub mod BoundaryLemmas
+pub mod MemoryBalance
+pub mod LinkedLemmas

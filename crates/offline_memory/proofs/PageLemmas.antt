@@ -73,12 +73,12 @@ blocks_apart pages labels =
     Pairwise-flat_map ApartBlocks page_blocks pages (all_from_members (λ page. Pairwise ApartBlocks (page_blocks page)) pages (λ page h. page_apart page))
     (Pairwise-weaker (λ (a b : Touched). a.label ≡ b.label → ⊥) (λ a b. Across ApartBlocks (page_blocks a) (page_blocks b)) pages_apart pages (labels_apart pages labels))
 
-distinct_places : (pages : List Touched) → DistinctLabels pages → Distinct (map cell_place (map last_cell (blocks_of pages)))
+pub distinct_places : (pages : List Touched) → DistinctLabels pages → Distinct (map cell_place (map last_cell (blocks_of pages)))
 distinct_places pages labels =
     Pairwise-map (λ p q. p ≡ q → ⊥) cell_place (map last_cell (blocks_of pages))
     (Pairwise-map (λ x y. cell_place x ≡ cell_place y → ⊥) last_cell (blocks_of pages) (blocks_apart pages labels))
 
-same_places : (blocks : List Block) → map cell_place (map first_cell blocks) ≡ map cell_place (map last_cell blocks)
+pub same_places : (blocks : List Block) → map cell_place (map first_cell blocks) ≡ map cell_place (map last_cell blocks)
 same_places [] = refl
 same_places (b ∷ blocks) = ap (λ (t : List (ℕ × ℕ)). (b.space, b.pointer) ∷ t) (same_places blocks)
 
@@ -159,7 +159,7 @@ old_times blocks accesses balanced =
     (omega (arith, balanced.counts (met_cell a), count_member same_cell same_cell-IsEquality (met_cell a) (map met_cell accesses) (member_image met_cell a accesses h))))
 
 -- the blocks of a page stand among the blocks of all pages
-block_member : (pages : List Touched) (page : Touched) (block : ℕ) → Member page pages → block < 16 → Member (block_of page block) (blocks_of pages)
+pub block_member : (pages : List Touched) (page : Touched) (block : ℕ) → Member page pages → block < 16 → Member (block_of page block) (blocks_of pages)
 block_member pages page block h below =
     member_piece page_blocks page (block_of page block) pages h (member_image (block_of page) block (range_with_len 0 16) (range_member 0 16 block (omega arith) (omega (arith, below))))
 

@@ -10,6 +10,7 @@ use Rattle.offline_memory.specs.Memory.{Access, MemoryBalanced, InTime}
 use Rattle.offline_memory.specs.Bytes.{KeepBytes, HasBytes}
 use Rattle.offline_memory.specs.Pages.{blocks_of, DistinctLabels, PagesOfBytes, SequentialMemory, OrderedMemory, IsOldTime, MemoryOfPages, UntouchedStays}
 use Rattle.offline_memory.specs.MemoryEvents.{memory_events}
+use Rattle.offline_memory.specs.Linked.{unmet, Linked, PagesFit}
 
 -- Accesses in the order of time, with each old time before its own, that balance with pages of different
 -- labels are one sequential memory. No bound on times is needed.
@@ -48,3 +49,8 @@ UntouchedBlocksStay = (pages : List Touched) (accesses : List Access) → Distin
 abbrev pub BalancedEventsBalanceAccesses : Type 0
 BalancedEventsBalanceAccesses = (pages : List Touched) (accesses : List Access) (events : List Event) → BalancedOn (is_bus 2) events
     → SameTotals 2 events (memory_events pages accesses) → MemoryBalanced (blocks_of pages) accesses
+
+-- Back: accesses that are linked, each to the last one of its place, balance with pages that fit them.
+abbrev pub LinkedAccessesBalance : Type 0
+LinkedAccessesBalance = (pages : List Touched) (accesses : List Access) → Linked unmet accesses → PagesFit pages accesses
+    → BalancedOn (is_bus 2) (memory_events pages accesses)

@@ -1,5 +1,5 @@
 // What follows from the balance of the memory bus. A law is the contract of a function without a body.
-ghost use Rattle.offline_memory.specs.Laws.{BalancedAccessesAreOneMemory, BalancedAccessesHaveBytes, BalancedEventsBalanceAccesses, DistinctTimesAreOneMemory, OldTimesAreAccessTimes, PagesAreMemories, UntouchedBlocksStay};
+ghost use Rattle.offline_memory.specs.Laws.{BalancedAccessesAreOneMemory, BalancedAccessesHaveBytes, BalancedEventsBalanceAccesses, LinkedAccessesBalance, DistinctTimesAreOneMemory, OldTimesAreAccessTimes, PagesAreMemories, UntouchedBlocksStay};
 
 /// Accesses in the order of time that balance with pages of different labels are one sequential memory.
 pub fn balanced_accesses_are_one_memory()
@@ -34,4 +34,10 @@ pub fn untouched_blocks_stay()
 /// Where the memory bus balances, its accesses balance with the pages.
 pub fn balanced_events_balance_accesses()
     ensures { BalancedEventsBalanceAccesses }
+{}
+
+/// Accesses that are linked, each to the last one of its place, balance with pages that fit them.
+#[tactic(auto, using(crate::proofs::LinkedLemmas::linked_accesses_balance))]
+pub fn linked_accesses_balance()
+    ensures { LinkedAccessesBalance }
 {}

@@ -1,6 +1,6 @@
 -- What is fetched of a text.
-use Rattle.std.proofs.Common.{◌≡◌, ℕ, zero, suc, ◌+◌, ◌<◌, List, [], ◌∷◌, ◌++◌, length, take, map, get_or, add-one, arith, slice_get, refl, sym, ap, subst, ◌∙◌}
-use Rattle.std.specs.Prelude.{Option, None, Some, IfSome}
+use Rattle.std.proofs.Common.{◌≡◌, ℕ, zero, suc, ◌+◌, ◌<◌, List, [], ◌∷◌, ◌++◌, length, take, map, get_or, add-one, arith, slice_get, refl, sym, ap, ◌∙◌}
+use Rattle.std.specs.Prelude.{Option, None, Some}
 use Rattle.std.specs.Option.{option_and_then, option_map}
 use Rattle.std.proofs.lemmas.Option.{get_or_from_slice_get, slice_get-map, slice_get_within}
 use Rattle.elf_image.specs.declared.TextWord.{TextWord}
@@ -8,12 +8,11 @@ use Rattle.elf_image.specs.Loaded.{IsPlace}
 use Rattle.elf_image.proofs.Searches.{placed, not_placed}
 use Rattle.rv_decode.specs.declared.instr.Instr.{Instr}
 use Rattle.rv_decode.specs.Listing.{decode_of}
-use Rattle.rv_decode.specs.Ranges.{HasFieldsInRange}
 use Rattle.rv_decode.proofs.ListingLemmas.{IfSome-decode_of}
 use Rattle.rv_run.specs.declared.outcome.Cause.TheVariants.{NotText, Undecoded}
 use Rattle.rv_run.specs.Code.{decoded, fetched, HasRanges}
 use Rattle.rv_run.specs.Machine.{Machine}
-use Rattle.rv_run.specs.Step.{Next, step_at_word, step_by, trap_at}
+use Rattle.rv_run.specs.Step.{step_at_word, step_by, trap_at}
 
 module _ (text : List TextWord) (pc : ℕ) (word : Option ℕ) where
   -- a place is within the text

@@ -8,6 +8,10 @@ abbrev pub number_at : (ℕ → ℕ) → ℕ → ℕ → ℕ
 number_at memory address zero = 0
 number_at memory address (suc count) = memory address + 256 * number_at memory (address + 1) count
 
+-- the four bytes from an address on
+abbrev pub four_at : (ℕ → ℕ) → ℕ → List ℕ
+four_at memory address = memory address ∷ memory (address + 1) ∷ memory (address + 2) ∷ memory (address + 3) ∷ []
+
 -- a byte that stands from an address on, or another
 abbrev pub given_or : ℕ → List ℕ → ℕ → ℕ → ℕ
 given_or from bytes address other =

@@ -18,6 +18,23 @@ pub struct Page {
     bytes: Box<[u8; 4096]>,
 }
 
+impl Page {
+    ghost use Rattle.rv_run.specs.Memory.{four_at};
+
+    // Four bytes from a place on.
+    fn four(&self, at: usize) -> [u8; 4]
+        requires { at + 4 ≤ 4096 }
+        ensures { result ≡ four_at (slice_index self.now.bytes.value) at }
+    {
+        [
+            self.bytes[at],
+            self.bytes[at + 1],
+            self.bytes[at + 2],
+            self.bytes[at + 3],
+        ]
+    }
+}
+
 /// The bytes below 2^29. A page is kept from the first store to it on.
 #[derive(Drop)]
 pub struct Memory<'a> {
@@ -31,7 +48,7 @@ impl<'a> Memory<'a> {
     ghost use Rattle.elf_image.specs.Loaded.{byte_of, word_of};
     ghost use Rattle.rv_run.specs.Code.{fetched, HasRanges};
     ghost use Rattle.byteorder.specs.Endian.{little_bytes};
-    ghost use Rattle.rv_run.specs.Memory.{number_at, with_bytes, with_words};
+    ghost use Rattle.rv_run.specs.Memory.{four_at, number_at, with_bytes, with_words};
     ghost use Rattle.rv_run.specs.Step.{words_at, bytes_at};
     ghost use Rattle.vm_word.specs.Operations.{store_width};
     ghost use Rattle.rv_run.specs.Pages.{memory_of, IsOwned, KeepsOwned};
@@ -75,17 +92,38 @@ impl<'a> Memory<'a> {
         u16::from_le_bytes([self.byte(address), self.byte(address + 1)])
     }
 
+    /// Four bytes from an address on. They are in one page, which is looked up once.
+    pub fn four(&self, address: u32) -> [u8; 4]
+        requires { address % 4 ≡ 0 }
+        ensures { result ≡ four_at (memory_of self.now) address }
+    {
+        match self.pages.get(address as usize / PAGE_SIZE) {
+            Some(Some(page)) => page.four(address as usize % PAGE_SIZE),
+            _ => self.unstored(address),
+        }
+    }
+
+    // Four bytes of the image from an address on. (Out of line, so that `four` is short where a page is kept.)
+    #[inline(never)]
+    fn unstored(&self, address: u32) -> [u8; 4]
+        requires { address % 4 ≡ 0 }
+        ensures { result ≡ four_at (byte_of self.now.code.image.now) address }
+    {
+        let image = self.code.image();
+        [
+            image.byte(address),
+            image.byte(address + 1),
+            image.byte(address + 2),
+            image.byte(address + 3),
+        ]
+    }
+
     /// The number in four bytes from an address on.
     pub fn word(&self, address: u32) -> u32
         requires { address % 4 ≡ 0 }
         ensures { result ≡ number_at (memory_of self.now) address 4 }
     {
-        u32::from_le_bytes([
-            self.byte(address),
-            self.byte(address + 1),
-            self.byte(address + 2),
-            self.byte(address + 3),
-        ])
+        u32::from_le_bytes(self.four(address))
     }
 
     /// Puts bytes from an address on, all in one page.
@@ -137,12 +175,18 @@ impl<'a> Memory<'a> {
 
     /// The 64 bytes from an address on.
     pub fn block(&self, address: u32) -> [u8; 64]
-        requires { address ≤ 2 ^ 29 }
+        requires aligned { address % 4 ≡ 0 }
+        requires low { address ≤ 2 ^ 29 }
         ensures { result ≡ bytes_at (memory_of self.now) address 64 }
     {
         let mut bytes = [0; 64];
-        for (i, byte) in bytes.iter_mut().enumerate() {
-            *byte = self.byte(address + i as u32);
+        for i in 0..16 {
+            let at = 4 * i;
+            let four = self.four(address + at as u32);
+            bytes[at] = four[0];
+            bytes[at + 1] = four[1];
+            bytes[at + 2] = four[2];
+            bytes[at + 3] = four[3];
         }
         bytes
     }
@@ -193,6 +237,7 @@ impl<'a> Memory<'a> {
     }
 
     // The bytes that the image has in a page.
+    #[inline(never)]
     fn copied_page(&self, number: u32) -> Result<Page, OutOfMemory>
         requires { number < 2 ^ 17 }
         ensures { IfOk result (λ page. (k : ℕ) → k < 4096 → slice_index page.bytes.value k ≡ byte_of self.now.code.image.now (4096 * number + k)) }

@@ -16,3 +16,6 @@ pub mod SpaceLaws
 pub mod InRangeLaws
 pub mod ResultLaws
 pub mod RegisterForm
+pub mod SlotRises
+pub mod GivenLaws
+pub mod MeetLaws

@@ -29,7 +29,7 @@ range_all P f a (suc n) j h low high = range_by P f a j (nat_eq a j) refl h.0 (�
 
 -- ---- reads
 
-Quiet : (ℕ → List ℕ → List ℕ) → Place → Type 0
+unfoldable pub Quiet : (ℕ → List ℕ → List ℕ) → Place → Type 0
 Quiet new p = (x : List ℕ) → new p.slot x ≡ x
 
 On : Place → Type 0
@@ -62,10 +62,10 @@ after_reads blocks new (p ∷ ps) more quiet =
 
 -- ---- writes
 
-Apart : Place → Place → Type 0
+unfoldable pub Apart : Place → Place → Type 0
 Apart p q = q.pointer ≡ p.pointer → ⊥
 
-Separate : List Place → Type 0
+unfoldable pub Separate : List Place → Type 0
 Separate [] = Unit {0}
 Separate (p ∷ ps) = AllByRecursion (Apart p) ps × Separate ps
 
@@ -129,7 +129,7 @@ separate_range f a (suc n) h = (
   separate_range f (a + 1) n (λ j k low less high. h j k (omega arith) less (omega arith)),
 )
 
-state_separate : (b : ℕ) → Separate (memory_from 18 b 8)
+pub state_separate : (b : ℕ) → Separate (memory_from 18 b 8)
 state_separate b = separate_range (λ j. memory (18 + j) (word_sum b (4 * j))) 0 8 (λ j k low less high same. omega (arith, same))
 
 module _ (i : VmInstr) (s : VmState) (pl : (b c : ℕ) → places_by i b c ≡ sha_places i b c)

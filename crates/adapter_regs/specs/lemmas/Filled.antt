@@ -1,15 +1,15 @@
 -- The columns of a step of the register form: they hold, and they say the record.
-use Rattle.std.proofs.Common.{◌≡◌, ℕ, ◌+◌, ◌*◌, ◌^◌, ◌≤◌, ◌<◌, ⊎_elim, true, false, List, [], ◌∷◌, ◌++◌, Option, Some, None, refl, sym, ap, subst, ◌∙◌, arith, lit<, pow_mono}
+use Rattle.std.proofs.Common.{◌≡◌, ℕ, ◌+◌, ◌*◌, ◌^◌, ◌≤◌, ◌<◌, ⊎_elim, true, false, List, [], ◌∷◌, ◌++◌, Option, Some, None, refl, sym, ap, subst, ◌∙◌, arith, lit<}
 use Rattle.std.specs.List.{AllByRecursion}
 use Rattle.std.proofs.lemmas.Bool.{cases_Bool}
-use Rattle.vm_field.specs.Field.{modulus, field_add, field_sub, field_mul}
+use Rattle.vm_field.specs.Field.{modulus, field_add, field_sub}
 use Rattle.vm_word.specs.Word.{word_of_limbs}
 use Rattle.vm_word.specs.Arithmetic.{word_sum}
 use Rattle.vm_isa.specs.declared.access.TimedAccess.{TimedAccess}
 use Rattle.vm_isa.specs.declared.record.StepRecord.{StepRecord}
 use Rattle.vm_isa.specs.Words.{IsBytes, IsWord}
 use Rattle.vm_isa.specs.Instr.{InRange, numbers_of}
-use Rattle.vm_isa.specs.Means.{Fillable, Placed, placed, placed_at}
+use Rattle.vm_isa.specs.Means.{Fillable}
 use Rattle.air_core.specs.declared.event.Event.{Event}
 use Rattle.air_core.specs.First.{gated_difference}
 use Rattle.air_core.specs.Ring.{field}
@@ -26,8 +26,9 @@ use Rattle.adapter_regs.specs.Regs.{regs_touches, first_touch, second_touch, thi
 use Rattle.vm_isa.specs.Opcodes.{is_register}
 use Rattle.vm_isa.specs.Results.{result}
 use Rattle.adapter_regs.specs.Core.{IsResultOf}
+use Rattle.adapter_regs.specs.lemmas.Access.{found, made_by, bytes_of}
 use Rattle.vm_isa.proofs.RegisterForm.{register_slots, named}
-use Rattle.vm_isa.proofs.RegisterForm.{writes, result_word, WordShape, ImmShape, word_shape, imm_shape}
+use Rattle.vm_isa.proofs.RegisterForm.{result_word, WordShape, ImmShape, word_shape, imm_shape}
 
 -- What columns are that were filled from a record of an opcode of the form.
 pub record RegsFilled (op : ℕ) (r : Regs ℕ) (new : Limbs ℕ) : Type 0 where
@@ -120,53 +121,6 @@ unfolding time_cells
 times_below r a b c =
     all_append (λ x. x < modulus) (gap_cells r.first) (gap_cells r.second ++ gap_cells r.third) a (all_append (λ x. x < modulus) (gap_cells r.second) (gap_cells r.third) b c)
 
-bytes_of : (xs : List ℕ) → IsWord xs → IsBytes (list_of (limbs_from xs))
-bytes_of xs h = subst IsBytes (sym (list_of-from xs h.four)) h.bytes
-
--- One access.
-
--- an access of a record in a row of this time
-record Found (hi time : ℕ) (slot number : ℕ) (a : TimedAccess) (new : List ℕ) : Type 0 where
-  at_time : a.time ≡ time + slot
-  space : a.access.space ≡ 1
-  pointer : a.access.pointer ≡ 4 * number
-  new_is : a.access.new ≡ new
-  before : a.before < a.time
-  ends : a.time < 2 ^ (16 + hi)
-  low : a.time ≤ 2 ^ 29
-
-found : (hi time slot number : ℕ) (a : TimedAccess) (new : List ℕ) → placed a ≡ placed_at time (writes slot number a.access.old new) → hi ≤ 13 → time + 3 ≤ 2 ^ (16 + hi) → slot < 3
-    → a.before < a.time → Found hi time slot number a new
-found hi time slot number a new e top ends small before =
-    let up : 16 + hi ≤ 29 = omega arith in
-    let most : 2 ^ (16 + hi) ≤ 2 ^ 29 = pow_mono up in
-    let t : a.time ≡ time + slot = ap (λ (x : Placed). x.time) e in
-    record {
-      at_time = t;
-      space = ap (λ (x : Placed). x.space) e;
-      pointer = ap (λ (x : Placed). x.pointer) e;
-      new_is = ap (λ (x : Placed). x.new) e;
-      before = before;
-      ends = omega arith;
-      low = omega arith;
-    }
-
-made_by : (hi time slot number count : ℕ) (a : TimedAccess) (old new : Limbs ℕ) (written : List ℕ) → count ≡ 1 → number < 32 → list_of old ≡ a.access.old → list_of new ≡ written → Found hi time slot number a written
-    → MadeBy hi time (record { count = count; slot = slot; space = 1; pointer = field_mul 4 number; old = old; new = new; gap = gap_filled a.time a.before }) a
-made_by hi time slot number count a old new written one small o w f =
-    let p = f.pointer in
-    record {
-      count = one;
-      at_time = f.at_time;
-      space = sym f.space;
-      pointer = omega arith;
-      old = o;
-      new = w ∙ sym f.new_is;
-      gap = refl;
-      before = f.before;
-      ends = f.ends;
-    }
-
 -- What a table is given of the columns, and what their accesses are.
 pub record FilledColumns (hi : ℕ) (done : StepRecord) (r : Regs ℕ) (new : Limbs ℕ) : Type 0 where
   pub own : RegsFilled done.instr.op r new
@@ -192,9 +146,9 @@ columns_of_word hi done top ends f s =
     let words = subst (AllByRecursion (λ (x : TimedAccess). IsWord x.access.old)) s.are f.words in
     let before = subst (AllByRecursion (λ (x : TimedAccess). x.before < x.time)) s.are f.earlier in
     let result_of = result_word done.instr.op s.a.access.old s.b.access.old in
-    let p = found hi done.time 0 done.instr.rs1 s.a s.a.access.old s.first top ends (omega arith) before.0 in
-    let q = found hi done.time 1 done.instr.rs2 s.b s.b.access.old s.second top ends (omega arith) before.1.0 in
-    let r = found hi done.time 2 done.instr.rd s.c result_of s.third top ends (omega arith) before.1.1.0 in
+    let p = found hi done.time 0 done.instr.rs1 s.a s.a.access.old s.first top (omega (arith, ends)) before.0 in
+    let q = found hi done.time 1 done.instr.rs2 s.b s.b.access.old s.second top (omega (arith, ends)) before.1.0 in
+    let r = found hi done.time 2 done.instr.rd s.c result_of s.third top (omega (arith, ends)) before.1.1.0 in
     let new = limbs_from s.c.access.new in
     let range = f.in_range in
     let new_word : IsWord s.c.access.new = subst IsWord (sym r.new_is) (limbs_word (result done.instr.op (word_of_limbs s.a.access.old) (word_of_limbs s.b.access.old))) in
@@ -228,8 +182,8 @@ columns_of_imm hi done top ends f s =
     let words = subst (AllByRecursion (λ (x : TimedAccess). IsWord x.access.old)) s.are f.words in
     let before = subst (AllByRecursion (λ (x : TimedAccess). x.before < x.time)) s.are f.earlier in
     let result_of = result_word done.instr.op s.a.access.old done.instr.imm in
-    let p = found hi done.time 0 done.instr.rs1 s.a s.a.access.old s.first top ends (omega arith) before.0 in
-    let r = found hi done.time 2 done.instr.rd s.c result_of s.third top ends (omega arith) before.1.0 in
+    let p = found hi done.time 0 done.instr.rs1 s.a s.a.access.old s.first top (omega (arith, ends)) before.0 in
+    let r = found hi done.time 2 done.instr.rd s.c result_of s.third top (omega (arith, ends)) before.1.0 in
     let range = f.in_range in
     let new_word : IsWord s.c.access.new = subst IsWord (sym r.new_is) (limbs_word (result done.instr.op (word_of_limbs s.a.access.old) (word_of_limbs done.instr.imm))) in
     let back_a = list_of-from s.a.access.old words.0.four in

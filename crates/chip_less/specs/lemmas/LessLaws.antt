@@ -18,28 +18,13 @@ use Rattle.air_core.specs.Ring.{field, cell, cells}
 use Rattle.air_core.specs.Sheet.{AllZero, AllBelow}
 use Rattle.air_core.specs.lemmas.Cells.{cells_below}
 use Rattle.air_core.specs.lemmas.OneHot.{is_place, sum_one}
-use Rattle.gadget_limbs.specs.Less.{Digits, LessColumns, less_constraints, less_ranges, less_filled, marks_of, marks_sum, equal_above, marked_differs, differences, top_constraint, ordered}
-use Rattle.gadget_limbs.specs.OrderLaws.{AreDigits, LessBelow, LessMeets, digits_of, word_less}
+use Rattle.gadget_limbs.specs.Less.{less_columns, less_constraints, less_ranges, marks_sum, equal_above, marked_differs, differences, top_constraint}
+use Rattle.gadget_limbs.specs.OrderLaws.{LessMeets, digits_of, word_less}
 use Rattle.gadget_limbs.specs.Ranges.{range_lines}
-use Rattle.gadget_limbs.proofs.Ordering.{less_law}
-use Rattle.gadget_limbs.proofs.OrderFilled.{less_holds}
-use Rattle.gadget_limbs.proofs.OrderedWords.{words_are_ordered}
+use Rattle.gadget_limbs.proofs.WordOrder.{word_order, filled_cells, filled_order}
 use Rattle.gadget_limbs.proofs.RangeLaws.{ranges_good, good_ranges, ranges_count, ranges_silent}
 use Rattle.adapter_regs.specs.Core.{Operands, CoreLaws, IsCoreAt, IsResult, IsResultOf, IsGoodCore, IsPlaced, IsLookup, no_operands}
-use Rattle.chip_less.specs.Less.{less_core, less_opcodes, less_columns, less_cells, result_of, signed_at}
-
-are_digits : (w : Limbs ℕ) → IsBytes (list_of w) → AreDigits (digits_of w)
-unfolding list_of
-are_digits w h = record { low = (h.0, (h.1.0, (h.1.1.0, tt))); top = h.1.1.1.0 }
-
-are_below : (x : Limbs ℕ) (own : List ℕ) → AllBelow own → LessBelow (digits_of x) (less_columns field own)
-are_below x own h = record {
-  long = refl;
-  left_top = below_at own 0 h;
-  right_top = below_at own 1 h;
-  marks = cells_below own h 2 4;
-  less = below_at own 7 h;
-}
+use Rattle.chip_less.specs.Less.{less_core, less_opcodes, result_of, signed_at}
 
 -- which order the place of a flag asks for
 abbrev signed_place : ℕ → Bool
@@ -78,50 +63,33 @@ small_word r own e small = ((omega (arith, e), (omega arith, (omega arith, (omeg
 sound : (k : ℕ) (o : Operands ℕ) → IsCoreAt less_core k o → AllZero (less_core.parts.constraints o) → AllByRecursion (λ e. e.count ≢ 0 → GoodEvent e) (less_core.parts.lookups o)
     → IsResult (slice_index less_opcodes k) o (less_core.parts.new o)
 sound k o at zero_all good =
-    let c = less_columns field o.own in
+    let c = less_columns 4 0 (cell field o.own) in
     let valid : sum_from field 0 o.flags ≡ 1 = ap (sum_from field 0) at.flags ∙ sum_one 2 k at.below in
     let flag : cell field o.flags 0 ≡ signed_at k = ap (λ (fs : List ℕ). slice_index fs 0) at.flags ∙ flag_is k at.below in
     let ranges = ranges_good (sum_from field 0 o.flags) 8 (less_ranges field (cell field o.flags 0) c) (λ none. absurd (omega (arith, valid, none))) good in
-    let law = less_law (signed_at k) (digits_of o.left) (digits_of o.right) c (signed_small k) (are_digits o.left at.left) (are_digits o.right at.right) refl (lit≤ tt) (are_below o.left o.own at.own_below)
+    let order = word_order (signed_place k) o.left o.right o.own at.left at.right at.own_below
     (record { zero = zero_all; ranges = subst (λ (s : ℕ). AllByRecursion (λ n. n < 256) (less_ranges field s c)) flag ranges }) in
-    let order = law ∙ ap from_bool (words_are_ordered (signed_place k) o.left o.right at.left at.right) in
     let test = word_less (signed_place k) (word_of_limbs (list_of o.left)) (word_of_limbs (list_of o.right)) in
     let w = small_word (word_of_test test) o.own (order ∙ test_is test) (test_small test) in
     record { bytes = w.0; result_is = w.1 ∙ sym (result_is k (word_of_limbs (list_of o.left)) (word_of_limbs (list_of o.right)) at.below) }
 
 -- ---- complete
 
-back : (s : ℕ) (x y : Limbs ℕ) → less_columns field (less_cells (less_filled s (digits_of x) (digits_of y))) ≡ less_filled s (digits_of x) (digits_of y)
-unfolding less_filled marks_of
-back s x y = refl
-
-complete_at : (k : ℕ) (o : Operands ℕ) → IsCoreAt less_core k o → o.own ≡ less_cells (less_filled (signed_at k) (digits_of o.left) (digits_of o.right)) → IsGoodCore less_core o
+complete_at : (k : ℕ) (o : Operands ℕ) → IsCoreAt less_core k o → o.own ≡ filled_cells (signed_at k) o.left o.right → IsGoodCore less_core o
 complete_at k o at filled =
-    let c = less_columns field o.own in
+    let c = less_columns 4 0 (cell field o.own) in
     let valid : sum_from field 0 o.flags ≡ 1 = ap (sum_from field 0) at.flags ∙ sum_one 2 k at.below in
     let flag : cell field o.flags 0 ≡ signed_at k = ap (λ (fs : List ℕ). slice_index fs 0) at.flags ∙ flag_is k at.below in
-    let is : c ≡ less_filled (signed_at k) (digits_of o.left) (digits_of o.right) = ap (less_columns field) filled ∙ back (signed_at k) o.left o.right in
-    let meets = (less_holds (signed_at k) (digits_of o.left) (digits_of o.right) (signed_small k) (are_digits o.left at.left) (are_digits o.right at.right) refl).1 in
-    let ranges : AllByRecursion (λ n. n < 256) (less_ranges field (cell field o.flags 0) c) = rw (flag, is) meets.ranges in
+    let meets : LessMeets (signed_at k) (digits_of o.left) (digits_of o.right) c = rw filled (filled_order (signed_at k) o.left o.right (signed_small k) at.left at.right).meets in
+    let ranges : AllByRecursion (λ n. n < 256) (less_ranges field (cell field o.flags 0) c) = rw flag meets.ranges in
     record {
-      zero = subst (λ (d : LessColumns ℕ). AllZero (less_constraints field (digits_of o.left) (digits_of o.right) d)) (sym is) meets.zero;
+      zero = meets.zero;
       small = ranges_count (sum_from field 0 o.flags) 1 8 (less_ranges field (cell field o.flags 0) c) (omega (arith, valid));
       good = good_ranges (sum_from field 0 o.flags) 8 (less_ranges field (cell field o.flags 0) c) (lit≤ tt) ranges;
     }
 
-filled_long : (s : ℕ) (x y : Limbs ℕ) → length (less_cells (less_filled s (digits_of x) (digits_of y))) ≡ 8
-unfolding less_filled marks_of
-filled_long s x y = refl
-
-filled_below : (s : ℕ) (x y : Limbs ℕ) → s ≤ 1 → IsBytes (list_of x) → IsBytes (list_of y) → AllBelow (less_cells (less_filled s (digits_of x) (digits_of y)))
-unfolding less_filled marks_of less_ranges
-filled_below s x y small p q =
-    let both = less_holds s (digits_of x) (digits_of y) small (are_digits x p) (are_digits y q) refl in
-    let below = both.0 in
-    (below.left_top, (below.right_top, (below.marks.0, (below.marks.1.0, (below.marks.1.1.0, (below.marks.1.1.1.0, (omega (arith, both.1.ranges.1.1.0), (below.less, tt))))))))
-
 silent : (o : Operands ℕ) → AllZero o.flags → AllByRecursion (λ e. e.count ≡ 0) (less_core.parts.lookups o)
-silent o none = ranges_silent (sum_from field 0 o.flags) 8 (less_ranges field (cell field o.flags 0) (less_columns field o.own)) (sum_none o.flags none)
+silent o none = ranges_silent (sum_from field 0 o.flags) 8 (less_ranges field (cell field o.flags 0) (less_columns 4 0 (cell field o.own))) (sum_none o.flags none)
 
 zeros : AllZero (less_core.parts.constraints (no_operands less_core))
 unfolding less_constraints marks_sum equal_above marked_differs differences top_constraint bit list_of zero_test
@@ -130,11 +98,12 @@ zeros = by_zero_test (less_core.parts.constraints (no_operands less_core)) refl
 placed : (op : ℕ) (left right new : Limbs ℕ) → list_any (nat_eq op) less_opcodes ≡ true → IsBytes (list_of left) → IsBytes (list_of right) → IsPlaced less_core op left right new
 placed op left right new own p q =
     let place = is_place less_opcodes op own in
+    let filled = filled_order (signed_at (opcode_place less_opcodes op)) left right (signed_small (opcode_place less_opcodes op)) p q in
     record {
       below = place.below;
       opcode = place.is;
-      long = filled_long (signed_at (opcode_place less_opcodes op)) left right;
-      own_below = filled_below (signed_at (opcode_place less_opcodes op)) left right (signed_small (opcode_place less_opcodes op)) p q;
+      long = filled.long;
+      own_below = filled.below;
     }
 
 lookups_are : (o : Operands ℕ) → AllByRecursion IsLookup (less_core.parts.lookups o)

@@ -1,4 +1,4 @@
-use Rattle.std.proofs.Common.{◌≡◌, ◌-◌, ℕ, List, length, take, drop, rules}
+use Rattle.std.proofs.Common.{◌≡◌, ◌-◌, length, take, drop, rules}
 use Rattle.rv_run.proofs.PageLemmas.{byte_copied}
 use Rattle.rv_run.proofs.memory.copy_part.Goals as goal
 
