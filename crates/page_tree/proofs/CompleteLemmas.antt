@@ -6,9 +6,9 @@ use Rattle.std.proofs.lemmas.List.{append-nil}
 use Rattle.std.proofs.lemmas.List.Elements.{All-append, All-cons, All-nil, All-same}
 use Rattle.sha2.specs.Sha256.{sha256}
 use Rattle.sha2.proofs.Facts256.{length-sha256}
-use Rattle.page_tree.specs.Tree.{Leaves, node, root, some_below, replaced}
+use Rattle.page_tree.specs.Tree.{Leaves, node, root, some_below, replaced, IsBelow}
 use Rattle.page_tree.specs.Opening.{AreDigests, Walked, at_sibling, at_leaf, at_pair, walk, needed, siblings_below, opening_root, siblings_needed, siblings_of, IsComplete}
-use Rattle.page_tree.proofs.TreeLemmas.{below_leaf, some_below-true, node-same, has-true, has-from, replaced-at, replaced-other, replaced_below}
+use Rattle.page_tree.proofs.TreeLemmas.{below_leaf, below_left, below_right, some_below-true, node-same, has-true, has-from, replaced-at, replaced-other, replaced_below}
 use Rattle.page_tree.proofs.WalkLemmas.{walk-none, walk-leaf, walk-pair, needed-none, needed-leaf, needed-pair}
 
 siblings-none : (m : Leaves) (labels : List ℕ) (l i : ℕ) → some_below labels l i ≡ false → siblings_below m labels l i ≡ sha256 (node m l i) ∷ []
@@ -23,6 +23,23 @@ siblings-leaf m labels i h = cond-true (some_below labels zero i) _ _ h
 siblings-pair : (m : Leaves) (labels : List ℕ) (l i : ℕ) → some_below labels (suc l) i ≡ true → siblings_below m labels (suc l) i ≡ siblings_below m labels l (2 * i) ++ siblings_below m labels l (2 * i + 1)
 unfolding siblings_below
 siblings-pair m labels l i h = cond-true (some_below labels (suc l) i) _ _ h
+
+-- siblings depend on the leaves below the node alone
+pub siblings_below-same : (m n : Leaves) (labels : List ℕ) (l i : ℕ) → ((j : ℕ) → IsBelow l i j → m j ≡ n j) → siblings_below m labels l i ≡ siblings_below n labels l i
+siblings_below-same m n labels zero i h =
+    ⊎_elim
+    (λ (some : some_below labels zero i ≡ true). siblings-leaf m labels i some ∙ sym (siblings-leaf n labels i some))
+    (λ (none : some_below labels zero i ≡ false). siblings-none m labels zero i none ∙ ap (λ x. sha256 x ∷ []) (node-same m n zero i h) ∙ sym (siblings-none n labels zero i none))
+    (cases_Bool (some_below labels zero i))
+siblings_below-same m n labels (suc l) i h =
+    ⊎_elim
+    (λ (some : some_below labels (suc l) i ≡ true).
+    siblings-pair m labels l i some
+    ∙ ap (λ xs. xs ++ siblings_below m labels l (2 * i + 1)) (siblings_below-same m n labels l (2 * i) (λ j b. h j (below_left l i j b)))
+    ∙ ap (λ xs. siblings_below n labels l (2 * i) ++ xs) (siblings_below-same m n labels l (2 * i + 1) (λ j b. h j (below_right l i j b)))
+    ∙ sym (siblings-pair n labels l i some))
+    (λ (none : some_below labels (suc l) i ≡ false). siblings-none m labels (suc l) i none ∙ ap (λ x. sha256 x ∷ []) (node-same m n (suc l) i h) ∙ sym (siblings-none n labels (suc l) i none))
+    (cases_Bool (some_below labels (suc l) i))
 
 -- a tree has as many siblings as a walk needs
 pub length-siblings_below : (m : Leaves) (labels : List ℕ) (l i : ℕ) → length (siblings_below m labels l i) ≡ needed labels l i

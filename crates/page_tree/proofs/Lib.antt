@@ -9,7 +9,7 @@ pub mod PartingLemmas
 pub mod PageLemmas
 pub mod SizeLemmas
 pub mod KeptLemmas
-pub mod PutLemmas
 pub mod PlaceLemmas
+pub mod CopyLemmas
 pub mod StartLemmas
 pub mod BlockLemmas

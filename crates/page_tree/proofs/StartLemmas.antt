@@ -1,18 +1,23 @@
 -- The leaves at the start, leaf by leaf and load by load.
-use Rattle.std.proofs.Common.{◌≡◌, ℕ, zero, suc, ◌+◌, ◌*◌, ◌/◌, ◌%◌, ◌<◌, ◌≤◌, ◌⊎◌, inl, inr, ⊎_elim, Bool, true, false, eqb, List, [], ◌∷◌, map, replicate, length, refl, sym, ap, ◌∙◌, subst, arith}
+use Rattle.std.proofs.Common.{◌≡◌, ℕ, zero, suc, ◌+◌, ◌-◌, ◌*◌, ◌/◌, ◌%◌, ◌^◌, ◌<◌, ◌≤◌, ◌⊎◌, inl, inr, ⊎_elim, Bool, true, false, eqb, cond, List, [], ◌∷◌, map, replicate, length, get_or, drop, refl, sym, ap, ◌∙◌, subst, arith}
 use Rattle.std.specs.Prelude.{Option, Some, None, slice_get, not}
 use Rattle.std.specs.Cmp.Lexicographic.{pointwise, same_text}
 use Rattle.std.specs.List.{range_with_len}
+use Rattle.std.proofs.Math.Nat.{pow-suc}
 use Rattle.std.proofs.lemmas.Bool.{cases_eq, cases_lt, cond-true, cond-false, eq-eqb, ne_eqb}
 use Rattle.std.proofs.lemmas.Bool.Decides.{nat_tests}
 use Rattle.std.proofs.lemmas.List.{length-map}
-use Rattle.std.proofs.lemmas.List.FromFn.{length-range_with_len}
+use Rattle.std.proofs.lemmas.List.FromFn.{length-range_with_len, get_or-map-range_with_len}
 use Rattle.elf_image.specs.Loaded.{Load, Loaded, IsPart, gives, byte_in, byte_of}
 use Rattle.elf_image.specs.declared.LoadPart.{LoadPart}
-use Rattle.page_tree.specs.Tree.{Leaves}
-use Rattle.page_tree.specs.Kept.{put_at}
-use Rattle.page_tree.specs.Loading.{IsRightOrZeros, MemoryPut, NoneGives, IsLoaded}
+use Rattle.page_tree.specs.Tree.{Leaves, IsBelow}
+use Rattle.page_tree.specs.Kept.{shown, either_half, HasShape, Stands}
+use Rattle.page_tree.specs.declared.subtree.Subtree.{Subtree, Pair'}
+use Rattle.page_tree.specs.declared.subtree.Subtree.TheVariants.{Zeros, Leaf}
+use Rattle.page_tree.specs.Loading.{given_or, laid_over, AreLoaded, LaysOver}
 use Rattle.page_tree.specs.Start.{memory_leaf, start_map}
+use Rattle.page_tree.proofs.TreeLemmas.{below_leaf, below_left, below_right}
+use Rattle.page_tree.proofs.KeptLemmas.{shown-zeros, half-left, half-right, below-lower, below-upper}
 
 pub start_map-in : (image : Loaded) (label : ℕ) → label / 8388608 ≡ 2 → start_map image label ≡ memory_leaf image (label % 8388608)
 unfolding start_map
@@ -39,26 +44,6 @@ length-start_map image label =
     (λ (outside : label / 8388608 ≡ 2 → ⊥). ap length (start_map-out image label outside))
     (cases_eq (label / 8388608) 2)
 
--- A leaf that is put.
-
-pub put_at-here : (m : Leaves) (label : ℕ) (leaf : List ℕ) → put_at m label leaf label ≡ leaf
-unfolding put_at
-put_at-here m label leaf = cond-true (eqb label label) leaf (m label) (eq-eqb label label refl)
-
-pub put_at-elsewhere : (m : Leaves) (label : ℕ) (leaf : List ℕ) (j : ℕ) → (label ≡ j → ⊥) → put_at m label leaf j ≡ m j
-unfolding put_at
-put_at-elsewhere m label leaf j h = cond-false (eqb label j) leaf (m j) (ne_eqb label j h)
-
--- where a leaf is to be zeros and is right or zeros, it is right already
-pub zeros-put : (image : Loaded) (m : Leaves) (label : ℕ) → start_map image label ≡ replicate 64 0 → IsRightOrZeros image m label → (j : ℕ) → m j ≡ put_at m label (start_map image label) j
-zeros-put image m label zeros is j =
-    let here : m label ≡ start_map image label =
-    ⊎_elim (λ (right : m label ≡ start_map image label). right) (λ (none : m label ≡ replicate 64 0). none ∙ sym zeros) is in
-    ⊎_elim
-    (λ (same : label ≡ j). subst (λ (k : ℕ). m k ≡ put_at m label (start_map image label) k) same (here ∙ sym (put_at-here m label (start_map image label))))
-    (λ (other : label ≡ j → ⊥). sym (put_at-elsewhere m label (start_map image label) j other))
-    (cases_eq label j)
-
 -- a test of lists that says that they don't differ
 pub not_different : (xs ys : List ℕ) (t : Bool) → t ≡ not (pointwise eqb xs ys) → t ≡ false → xs ≡ ys
 not_different xs ys t is none = same_text xs ys (by_cases (pointwise eqb xs ys) (sym is ∙ none))
@@ -66,38 +51,6 @@ not_different xs ys t is none = same_text xs ys (by_cases (pointwise eqb xs ys) 
     by_cases : (b : Bool) → not b ≡ false → true ≡ b
     by_cases true h = refl
     by_cases false h = absurd (cc)
-
--- Leaves that are put one after the other.
-
-pub MemoryPut-none : (image : Loaded) (from : ℕ) (m : Leaves) → MemoryPut image from from m m
-MemoryPut-none image from m = record {
-  inside = λ label low high. absurd (omega arith);
-  outside = λ label away. refl;
-}
-
-pub MemoryPut-more : (image : Loaded) (from leaf : ℕ) (old mid new : Leaves) → from ≤ leaf → MemoryPut image from leaf old mid
-    → ((j : ℕ) → new j ≡ put_at mid (16777216 + leaf) (start_map image (16777216 + leaf)) j) → MemoryPut image from (leaf + 1) old new
-MemoryPut-more image from leaf old mid new ordered so_far put = record {
-  inside = λ label low high.
-      ⊎_elim
-      (λ (same : 16777216 + leaf ≡ label).
-      subst (λ (k : ℕ). new k ≡ start_map image k) same (put (16777216 + leaf) ∙ put_at-here mid (16777216 + leaf) (start_map image (16777216 + leaf))))
-      (λ (other : 16777216 + leaf ≡ label → ⊥).
-      put label ∙ put_at-elsewhere mid (16777216 + leaf) (start_map image (16777216 + leaf)) label other ∙ so_far.inside label low (omega arith))
-      (cases_eq (16777216 + leaf) label);
-  outside = λ label away.
-      put label
-      ∙ put_at-elsewhere mid (16777216 + leaf) (start_map image (16777216 + leaf)) label (λ e. away (omega arith) (omega arith))
-      ∙ so_far.outside label (λ low high. away low (omega arith));
-}
-
--- a leaf that is not put yet is still what it was
-pub begun_still : (image : Loaded) (from leaf : ℕ) (old new : Leaves) → MemoryPut image from leaf old new → IsRightOrZeros image old (16777216 + leaf) → IsRightOrZeros image new (16777216 + leaf)
-begun_still image from leaf old new put is =
-    let same : new (16777216 + leaf) ≡ old (16777216 + leaf) = put.outside (16777216 + leaf) (λ low high. omega arith) in
-    ⊎_elim (λ (right : old (16777216 + leaf) ≡ start_map image (16777216 + leaf)). inl (same ∙ right)) (λ (none : old (16777216 + leaf) ≡ replicate 64 0). inr (same ∙ none)) is
-
--- The image, load by load.
 
 -- a leaf outside of a load's has none of its bytes
 gives_none : (load : Load) (a : ℕ) → (a < load.address) ⊎ (load.address + length load.bytes ≤ a) → gives load a ≡ false
@@ -120,102 +73,136 @@ load_outside load from to leaf k small below first last away =
     (cases_lt leaf to))
     (cases_lt leaf from))
 
-pub IsLoaded-none : (image : Loaded) (m : Leaves) → ((label : ℕ) → m label ≡ replicate 64 0) → IsLoaded image 0 m
-IsLoaded-none image m h = record { each = λ label. inr (h label, λ i load low found k small. absurd (omega arith)) }
+abbrev of_loads : List Load → Loaded
+of_loads loads = record { entry = 0; loads = loads }
 
-pub right_or_zeros : (image : Loaded) (count : ℕ) (m : Leaves) → IsLoaded image count m → (label : ℕ) → IsRightOrZeros image m label
-right_or_zeros image count m loaded label =
-    ⊎_elim (λ (right : m label ≡ start_map image label). inl right) (λ (none : (m label ≡ replicate 64 0) × NoneGives image.loads count label). inr none.0) (loaded.each label)
+map_same : (f g : ℕ → ℕ) (a n : ℕ) → ((k : ℕ) → a ≤ k → k < a + n → f k ≡ g k) → map f (range_with_len a n) ≡ map g (range_with_len a n)
+map_same f g a zero h = refl
+map_same f g a (suc n) h =
+    ap (λ (x : ℕ). x ∷ map f (range_with_len (a + 1) n)) (h a (omega arith) (omega arith))
+    ∙ ap (λ (xs : List ℕ). g a ∷ xs) (map_same f g (a + 1) n (λ k low high. h k (omega arith) (omega arith)))
 
-some_same : (x y : Load) → (Some x) ≡ (Some y) → x ≡ y
-some_same x y h = cc
-
-NoneGives-more : (loads : List Load) (count label : ℕ) → NoneGives loads count label
-    → ((load : Load) → slice_get loads count ≡ Some load → (k : ℕ) → k < 64 → gives load (64 * (label % 8388608) + k) ≡ false) → NoneGives loads (count + 1) label
-NoneGives-more loads count label before last = λ i load low found k small.
+-- a load that gives no byte of a leaf
+pub start_map-away : (load : Load) (loads : List Load) (from to j : ℕ) → 16777216 ≤ from → to ≤ 25165824 → from ≤ 16777216 + load.address / 64 → (to ≡ 25165824) ⊎ (load.address + length load.bytes ≤ 64 * (to - 16777216))
+    → (from ≤ j → j < to → ⊥) → start_map (of_loads loads) j ≡ start_map (of_loads (load ∷ loads)) j
+unfolding memory_leaf
+start_map-away load loads from to j memory space first last away =
     ⊎_elim
-    (λ (same : i ≡ count). last load (subst (λ (n : ℕ). slice_get loads n ≡ Some load) same found) k small)
-    (λ (other : i ≡ count → ⊥). before i load (omega arith) found k small)
-    (cases_eq i count)
+    (λ (inside : j / 8388608 ≡ 2).
+    start_map-in (of_loads loads) j inside
+    ∙ map_same (λ k. byte_in loads (64 * (j % 8388608) + k)) (λ k. byte_in (load ∷ loads) (64 * (j % 8388608) + k)) 0 64 (λ k low high.
+    sym (cond-false (gives load (64 * (j % 8388608) + k)) _ _
+    (load_outside load (from - 16777216) (to - 16777216) (j % 8388608) k (omega arith) (omega arith) (omega arith)
+    (⊎_elim (λ (all : to ≡ 25165824). inl (omega arith)) (λ (end : load.address + length load.bytes ≤ 64 * (to - 16777216)). inr end) last)
+    (λ above below. away (omega arith) (omega arith)))))
+    ∙ sym (start_map-in (of_loads (load ∷ loads)) j inside))
+    (λ (outside : j / 8388608 ≡ 2 → ⊥). start_map-out (of_loads loads) j outside ∙ sym (start_map-out (of_loads (load ∷ loads)) j outside))
+    (cases_eq (j / 8388608) 2)
 
--- one more load, whose leaves were put
-pub IsLoaded-more : (image : Loaded) (count from to : ℕ) (load : Load) (old new : Leaves) → slice_get image.loads count ≡ Some load
-    → from ≤ load.address / 64 → (to ≡ 8388608) ⊎ (load.address + length load.bytes ≤ 64 * to)
-    → IsLoaded image count old → MemoryPut image from to old new → IsLoaded image (count + 1) new
-IsLoaded-more image count from to load old new at first last loaded put = record {
-  each = λ label.
+pub LaysOver-away : (address : ℕ) (bytes : List ℕ) (l i from to : ℕ) (m : Leaves) → 16777216 ≤ from → to ≤ 25165824 → from ≤ 16777216 + address / 64 → (to ≡ 25165824) ⊎ (address + length bytes ≤ 64 * (to - 16777216))
+    → ((j : ℕ) → IsBelow l i j → from ≤ j → j < to → ⊥) → LaysOver address bytes l i m m
+LaysOver-away address bytes l i from to m memory space first last away = record {
+  lays = λ load loads at are begun j b.
+      begun j b
+      ∙ start_map-away load loads from to j memory space (subst (λ (a : ℕ). from ≤ 16777216 + a / 64) (sym at) first)
+      (subst (λ (a : ℕ). (to ≡ 25165824) ⊎ (a + length load.bytes ≤ 64 * (to - 16777216))) (sym at) (subst (λ (xs : List ℕ). (to ≡ 25165824) ⊎ (address + length xs ≤ 64 * (to - 16777216))) (sym are) last))
+      (away j b);
+}
+
+-- a byte of a leaf at the start
+byte_at : (loads : List Load) (leaf k : ℕ) → k < 64 → get_or (memory_leaf (of_loads loads) leaf) k 0 ≡ byte_in loads (64 * leaf + k)
+unfolding memory_leaf
+byte_at loads leaf k h = get_or-map-range_with_len (λ k. byte_in loads (64 * leaf + k)) 0 64 k k 0 h (omega arith)
+
+-- a load laid over one leaf
+pub LaysOver-leaf : (address : ℕ) (bytes : List ℕ) (label : ℕ) (old new : Leaves) → 16777216 ≤ label → label < 25165824 → new label ≡ laid_over address bytes (64 * (label - 16777216)) (old label) → LaysOver address bytes 0 label old new
+unfolding memory_leaf laid_over
+LaysOver-leaf address bytes label old new low high is = record {
+  lays = λ load loads at are begun j b.
+      let same : j ≡ label = below_leaf label j b in
+      let place : label % 8388608 ≡ label - 16777216 = omega arith in
+      let before : old label ≡ memory_leaf (of_loads loads) (label - 16777216) =
+      begun label (subst (λ (k : ℕ). IsBelow 0 label k) same b) ∙ start_map-in (of_loads loads) label (omega arith) ∙ ap (memory_leaf (of_loads loads)) place in
+      ap new same ∙ is
+      ∙ ap (laid_over address bytes (64 * (label - 16777216))) before
+      ∙ map_same (λ k. given_or address bytes (64 * (label - 16777216) + k) (get_or (memory_leaf (of_loads loads) (label - 16777216)) k 0)) (λ k. byte_in (load ∷ loads) (64 * (label - 16777216) + k)) 0 64 (λ k from to.
+      ap (λ (x : ℕ). given_or address bytes (64 * (label - 16777216) + k) x) (byte_at loads (label - 16777216) k to)
+      ∙ ap (λ (a : ℕ). given_or a bytes (64 * (label - 16777216) + k) (byte_in loads (64 * (label - 16777216) + k))) (sym at)
+      ∙ ap (λ (xs : List ℕ). given_or load.address xs (64 * (label - 16777216) + k) (byte_in loads (64 * (label - 16777216) + k))) (sym are))
+      ∙ sym (ap (λ (k : ℕ). start_map (of_loads (load ∷ loads)) k) same ∙ start_map-in (of_loads (load ∷ loads)) label (omega arith) ∙ ap (memory_leaf (of_loads (load ∷ loads))) place);
+}
+
+-- a load laid over two halves
+pub LaysOver-halves : (address : ℕ) (bytes : List ℕ) (l half i : ℕ) (old new left right left' right' : Leaves) → l ≡ half + 1
+    → ((j : ℕ) → old j ≡ either_half half i left right j) → ((j : ℕ) → new j ≡ either_half half i left' right' j)
+    → LaysOver address bytes half (2 * i) left left' → LaysOver address bytes half (2 * i + 1) right right' → LaysOver address bytes l i old new
+LaysOver-halves address bytes l half i old new left right left' right' e was is first second = record {
+  lays = λ load loads at are begun j b.
       ⊎_elim
-      (λ (inside : 16777216 + from ≤ label). ⊎_elim
-      (λ (within : label < 16777216 + to). inl (put.inside label inside within))
-      (λ (behind : 16777216 + to ≤ label). stays label (λ low high. absurd (omega arith)))
-      (cases_lt label (16777216 + to)))
-      (λ (before : label < 16777216 + from). stays label (λ low high. absurd (omega arith)))
-      (swapped (cases_lt label (16777216 + from)));
+      (λ (low : j < (2 * i + 1) * 2 ^ half).
+      is j ∙ half-left half i left' right' j low
+      ∙ first.lays load loads at are (λ k below. sym (half-left half i left right k below.to) ∙ sym (was k) ∙ begun k (below_lower l half i k e below)) j (below-lower l half i j e b low))
+      (λ (high : (2 * i + 1) * 2 ^ half ≤ j).
+      is j ∙ half-right half i left' right' j high
+      ∙ second.lays load loads at are (λ k below. sym (half-right half i left right k below.from) ∙ sym (was k) ∙ begun k (below_upper l half i k e below)) j (below-upper l half i j e b high))
+      (cases_lt j ((2 * i + 1) * 2 ^ half));
 }
   where
-    swapped : {A B : Type 0} → A ⊎ B → B ⊎ A
-    swapped (inl a) = inr a
-    swapped (inr b) = inl b
+    level_same : (l half : ℕ) → l ≡ half + 1 → suc half ≡ l
+    level_same l half e = omega arith
 
-    stays : (label : ℕ) → (16777216 + from ≤ label → label < 16777216 + to → ⊥) → (new label ≡ start_map image label) ⊎ ((new label ≡ replicate 64 0) × NoneGives image.loads (count + 1) label)
-    stays label away =
-        ⊎_elim
-        (λ (right : old label ≡ start_map image label). inl (put.outside label away ∙ right))
-        (λ (none : (old label ≡ replicate 64 0) × NoneGives image.loads count label).
-        ⊎_elim
-        (λ (memory : label / 8388608 ≡ 2).
-        inr (
-          put.outside label away ∙ none.0,
-          NoneGives-more image.loads count label none.1 (λ other found k small.
-              let same : load ≡ other = some_same load other (sym at ∙ found) in
-              subst (λ (x : Load). gives x (64 * (label % 8388608) + k) ≡ false) same
-              (load_outside load from to (label % 8388608) k (omega arith) small first last (λ low high. away (omega arith) (omega arith)))),
-        ))
-        (λ (elsewhere : label / 8388608 ≡ 2 → ⊥). inl (put.outside label away ∙ none.0 ∙ sym (start_map-out image label elsewhere)))
-        (cases_eq (label / 8388608) 2))
-        (loaded.each label)
+    below_lower : (l half i k : ℕ) → l ≡ half + 1 → IsBelow half (2 * i) k → IsBelow l i k
+    below_lower l half i k e b = subst (λ (n : ℕ). IsBelow n i k) (level_same l half e) (below_left half i k b)
 
--- a place without a load
-pub IsLoaded-absent : (image : Loaded) (count : ℕ) (m : Leaves) → slice_get image.loads count ≡ None → IsLoaded image count m → IsLoaded image (count + 1) m
-IsLoaded-absent image count m at loaded = record {
-  each = λ label.
-      ⊎_elim
-      (λ (right : m label ≡ start_map image label). inl right)
-      (λ (none : (m label ≡ replicate 64 0) × NoneGives image.loads count label).
-      inr (none.0, NoneGives-more image.loads count label none.1 (λ load found k small. absurd (let e : None ≡ Some load = sym at ∙ found in cc))))
-      (loaded.each label);
-}
+    below_upper : (l half i k : ℕ) → l ≡ half + 1 → IsBelow half (2 * i + 1) k → IsBelow l i k
+    below_upper l half i k e b = subst (λ (n : ℕ). IsBelow n i k) (level_same l half e) (below_right half i k b)
 
-byte_in-none : (loads : List Load) (a : ℕ) → ((i : ℕ) (load : Load) → i < length loads → slice_get loads i ≡ Some load → gives load a ≡ false) → byte_in loads a ≡ 0
-byte_in-none [] a h = refl
-byte_in-none (load ∷ loads) a h =
-    cond-false (gives load a) _ (byte_in loads a) (h 0 load (omega arith) refl)
-    ∙ byte_in-none loads a (λ i other low found. h (suc i) other (omega arith) found)
-
-map_zeros : (f : ℕ → ℕ) (a n : ℕ) → ((k : ℕ) → a ≤ k → k < a + n → f k ≡ 0) → map f (range_with_len a n) ≡ replicate n 0
-map_zeros f a zero h = refl
-map_zeros f a (suc n) h =
-    ap (λ (x : ℕ). x ∷ map f (range_with_len (a + 1) n)) (h a (omega arith) (omega arith))
-    ∙ ap (λ (xs : List ℕ). 0 ∷ xs) (map_zeros f (a + 1) n (λ k low high. h k (omega arith) (omega arith)))
+-- what is kept shows zeros behind its last label
+pub shown-behind : (l i j : ℕ) (t : Subtree) → HasShape l t → (i + 1) * 2 ^ l ≤ j → shown l i t j ≡ replicate 64 0
+unfolding shown Stands
+shown-behind zero i j Zeros h behind = refl
+shown-behind zero i j (Leaf leaf) h behind = cond-false (eqb i j) leaf.value.bytes (replicate 64 0) (ne_eqb i j (λ e. omega arith))
+shown-behind zero i j (Pair' p digest left right) h behind = refl
+shown-behind (suc l) i j Zeros h behind = refl
+shown-behind (suc l) i j (Leaf leaf) h behind = refl
+shown-behind (suc l) i j (Pair' p digest left right) h behind =
+    let behind' = rw pow-suc at behind in
+    half-right l i (shown l (2 * i) left) (shown l (2 * i + 1) right) j (omega arith) ∙ shown-behind l (2 * i + 1) j right h.1.1 (omega arith)
 
 -- all loads are in the tree
-pub IsLoaded-all : (image : Loaded) (count : ℕ) (m : Leaves) → length image.loads ≤ count → IsLoaded image count m → (label : ℕ) → m label ≡ start_map image label
-unfolding memory_leaf
-IsLoaded-all image count m all loaded label =
+pub AreLoaded-all : (image : Loaded) (t : Subtree) → HasShape 25 t → AreLoaded image.loads 25 0 (shown 25 0 t) → (j : ℕ) → shown 25 0 t j ≡ start_map image j
+unfolding start_map memory_leaf
+AreLoaded-all image t shape loaded j =
     ⊎_elim
-    (λ (right : m label ≡ start_map image label). right)
-    (λ (none : (m label ≡ replicate 64 0) × NoneGives image.loads count label).
-    none.0
-    ∙ sym (⊎_elim
-    (λ (memory : label / 8388608 ≡ 2).
-    start_map-in image label memory
-    ∙ map_zeros (λ k. byte_of image (64 * (label % 8388608) + k)) 0 64 (λ k low high.
-    byte_in-none image.loads (64 * (label % 8388608) + k) (λ i load within found. none.1 i load (omega arith) found k (omega arith))))
-    (λ (elsewhere : label / 8388608 ≡ 2 → ⊥). start_map-out image label elsewhere)
-    (cases_eq (label / 8388608) 2)))
-    (loaded.each label)
+    (λ (low : j < 33554432). loaded j (record { from = omega arith; to = omega arith }))
+    (λ (high : 33554432 ≤ j). shown-behind 25 0 j t shape (omega arith) ∙ sym (start_map-out image j (omega arith)))
+    (cases_lt j 33554432)
 
--- the load of a part
-pub load_of_part : (load : Option Load) (part : LoadPart) → IsPart load (Some part) → (x : Load) × (load ≡ Some x) × (part.address ≡ x.address) × (part.bytes.now ≡ x.bytes)
-load_of_part None part is = absurd is
-load_of_part (Some x) part is = (x, refl, is.0, is.1)
+pub AreLoaded-none : (loads : List Load) → loads ≡ [] → AreLoaded loads 25 0 (shown 25 0 Zeros)
+unfolding memory_leaf
+AreLoaded-none loads e j b =
+    shown-zeros 25 0 j
+    ∙ sym (ap (λ xs. start_map (of_loads xs) j) e ∙ ⊎_elim
+    (λ (inside : j / 8388608 ≡ 2). start_map-in (of_loads []) j inside ∙ map_same (λ k. byte_in [] (64 * (j % 8388608) + k)) (λ k. 0) 0 64 (λ k low high. refl))
+    (λ (outside : j / 8388608 ≡ 2 → ⊥). start_map-out (of_loads []) j outside)
+    (cases_eq (j / 8388608) 2))
+
+-- the load at a place stands before those behind it
+pub drop-load : (loads : List Load) (k : ℕ) (part : LoadPart) → k < length loads → IsPart (slice_get loads k) (Some part) → (x : Load) × (drop k loads ≡ x ∷ drop (k + 1) loads) × (x.address ≡ part.address) × (x.bytes ≡ part.bytes.now)
+drop-load [] k part h is = absurd (omega arith)
+drop-load (x ∷ loads) zero part h is = (x, refl, sym is.0, sym is.1)
+drop-load (x ∷ loads) (suc k) part h is =
+    let next : suc k + 1 ≡ suc (k + 1) = omega arith in
+    let t = drop-load loads k part (omega arith) is in
+    (t.0, t.1 ∙ ap (λ (n : ℕ). t.0 ∷ drop n (x ∷ loads)) (sym next), t.2, t.3)
+
+pub no_part : (loads : List Load) (k : ℕ) → k < length loads → IsPart (slice_get loads k) None → ⊥
+no_part [] k h is = omega arith
+no_part (x ∷ loads) zero h is = is
+no_part (x ∷ loads) (suc k) h is = no_part loads k (omega arith) is
+
+-- one load more
+pub AreLoaded-more : (loads : List Load) (k : ℕ) (part : LoadPart) (old new : Leaves) → k < length loads → IsPart (slice_get loads k) (Some part) → AreLoaded (drop (k + 1) loads) 25 0 old → LaysOver part.address part.bytes.now 25 0 old new → AreLoaded (drop k loads) 25 0 new
+AreLoaded-more loads k part old new h is begun laid j b =
+    let t = drop-load loads k part h is in
+    laid.lays t.0 (drop (k + 1) loads) t.2 t.3 begun j b ∙ sym (ap (λ xs. start_map (of_loads xs) j) t.1)

@@ -1,23 +1,23 @@
--- How the tree at the start is put together, load by load and leaf by leaf.
-use Rattle.std.specs.Prelude.{◌≡◌, ℕ, ◌+◌, ◌*◌, ◌%◌, ◌<◌, ◌≤◌, ◌⊎◌, false, List, Some, replicate, slice_get}
-use Rattle.elf_image.specs.Loaded.{Load, Loaded, gives}
-use Rattle.vm_trace.specs.declared.page.TheConstants.{MEMORY_LABEL, SPACE_PAGES}
-use Rattle.page_tree.specs.Tree.{Leaves}
+-- How the tree at the start is put together: load by load, the last one first.
+use Rattle.std.specs.Prelude.{◌≡◌, ℕ, ◌+◌, ◌-◌, ◌<◌, ◌&&◌, List, ◌∷◌, length, map, slice_index, nat_le, nat_lt, if◌then◌else◌}
+use Rattle.std.specs.List.{range_with_len}
+use Rattle.elf_image.specs.Loaded.{Load}
+use Rattle.page_tree.specs.Tree.{Leaves, IsBelow}
 use Rattle.page_tree.specs.Start.{start_map}
 
--- what stands there is what it will be, or still zeros
-abbrev pub IsRightOrZeros : Loaded → Leaves → ℕ → Type 0
-IsRightOrZeros image m label = (m label ≡ start_map image label) ⊎ (m label ≡ replicate 64 0)
+-- a byte that stands from an address on, or another
+abbrev pub given_or : ℕ → List ℕ → ℕ → ℕ → ℕ
+given_or from bytes address other =
+    if nat_le from address && nat_lt address (from + length bytes) then slice_index bytes (address - from) else other
 
--- from old to new the leaves of memory from one on and before another were put, and no others
-pub record MemoryPut (image : Loaded) (from to : ℕ) (old new : Leaves) : Type 0 where
-  pub inside : (label : ℕ) → MEMORY_LABEL + from ≤ label → label < MEMORY_LABEL + to → new label ≡ start_map image label
-  pub outside : (label : ℕ) → (MEMORY_LABEL + from ≤ label → label < MEMORY_LABEL + to → ⊥) → new label ≡ old label
+-- the 64 bytes from an address on, where these bytes stand over the old ones
+unfoldable pub laid_over : ℕ → List ℕ → ℕ → List ℕ → List ℕ
+laid_over address bytes start old = map (λ k. given_or address bytes (start + k) (slice_index old k)) (range_with_len 0 64)
 
--- none of the first loads gives a byte of the leaf at the label
-abbrev pub NoneGives : List Load → ℕ → ℕ → Type 0
-NoneGives loads count label = (i : ℕ) (load : Load) → i < count → slice_get loads i ≡ Some load → (k : ℕ) → k < 64 → gives load (64 * (label % SPACE_PAGES) + k) ≡ false
+-- the leaves below node i of level l are those at the start of these loads
+abbrev pub AreLoaded : List Load → ℕ → ℕ → Leaves → Type 0
+AreLoaded loads l i m = (j : ℕ) → IsBelow l i j → m j ≡ start_map (record { entry = 0; loads = loads }) j
 
--- the first loads are in the tree
-pub record IsLoaded (image : Loaded) (count : ℕ) (m : Leaves) : Type 0 where
-  pub each : (label : ℕ) → (m label ≡ start_map image label) ⊎ ((m label ≡ replicate 64 0) × NoneGives image.loads count label)
+-- leaves that were those of some loads are those of one load more, which stands before them
+pub record LaysOver (address : ℕ) (bytes : List ℕ) (l i : ℕ) (old new : Leaves) : Type 0 where
+  pub lays : (load : Load) (loads : List Load) → load.address ≡ address → load.bytes ≡ bytes → AreLoaded loads l i old → AreLoaded (load ∷ loads) l i new

@@ -4,16 +4,15 @@
 
 mod hash;
 pub mod laws;
-mod leaf;
 mod node;
 mod opening;
 mod path;
 mod start;
+mod subtree;
 #[cfg(test)]
 mod tests;
 mod tree;
 
-pub use leaf::Leaf;
 pub use opening::{OpeningError, roots_of, sibling_count};
 pub use path::path_root;
 pub use tree::Tree;

@@ -2,6 +2,7 @@
 //! computed plainly.
 
 mod images;
+mod kept;
 mod plain;
 
 use super::*;

@@ -39,6 +39,12 @@ fn image_of(alloc: Global, loads: &[Load; 2], bytes: &[u8]) -> Result<Option<Ima
     Ok(read_image(alloc, &file).ok())
 }
 
+/// Three words, and a load of which the file gives nothing.
+pub fn first_image(alloc: Global) -> Result<Image, Fail> {
+    let loads = [(0x1000, 116, 12, 12), (0x2000, 116, 0, 0x1000)];
+    Ok(image_of(alloc, &loads, &WORDS)?.ok_or("the first file is refused")?)
+}
+
 // A leaf of zeros, and the node over two of them.
 const ZERO_LEAF: &str = "f5a5fd42d16a20302798ef6ed309979b43003d2320d9f0e8ea9831a92759fb4b";
 
@@ -47,14 +53,7 @@ const ZERO_PAIR: &str = "db56114e00fdd4c1f85c892bf35ac9a89289aaecb1ebd0a96cde606
 #[test]
 fn trees_of_images(rt: HostRuntime) -> Result<(), Fail> {
     let alloc = rt.alloc();
-    // three words, and a load of which the file gives nothing
-    let image = image_of(
-        alloc,
-        &[(0x1000, 116, 12, 12), (0x2000, 116, 0, 0x1000)],
-        &WORDS,
-    )?
-    .ok_or("the first file is refused")?;
-    let tree = Tree::of_image(alloc, &image)?;
+    let tree = Tree::of_image(alloc, &first_image(alloc)?)?;
     let root = "a39f03217b103601f86f79a97f7175e72d7534818748d0140a22936573798f5f";
     assert!(rt; is_digest(&tree.root(), root));
     let path: [Digest; 25] = tree.public_path();
