@@ -30,6 +30,13 @@ pub fn register_touch(
     }
 }
 
+/// The same where the word is read, and stays.
+pub fn register_read(count: Fe, slot: u16, number: Fe, word: &Limbs, gap: Gap) -> Touch
+    ensures { result ≡ register_touch field count slot number word.now word.now gap }
+{
+    register_touch(count, slot, number, *word, *word, gap)
+}
+
 /// The columns of an access's time.
 pub fn gap_at(rest: &[Fe], at: usize) -> Gap
     requires { at + 3 ≤ length rest.now }
