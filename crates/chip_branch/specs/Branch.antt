@@ -20,6 +20,7 @@ use Rattle.gadget_time.specs.declared.touch.Touch.{Touch}
 use Rattle.gadget_time.specs.Form.{Form, Parts, Columns, valid_of}
 use Rattle.gadget_time.specs.FormLaws.{FormLaws}
 use Rattle.adapter_regs.specs.Core.{Operands, operands, IsLookup}
+use Rattle.adapter_regs.specs.Next.{next_by}
 use Rattle.adapter_regs.specs.Regs.{register_touch, gap_by, gap_of, gap_cells, access_at, limbs_of_zero}
 
 -- whether the branch is taken, as 1 or 0, and its own constraints and lookups
@@ -46,10 +47,6 @@ right_of o rest = limbs_by (cell o rest) 7
 
 abbrev pub operands_of : {A E : Type 0} → Ring A E → ℕ → Columns A → Operands A
 operands_of o own c = operands c.flags (left_of o c.rest) (right_of o c.rest) (cells (cell o c.rest) 11 own)
-
--- pc + 4 + taken * (target - pc - 4)
-unfoldable pub next_by : {A E : Type 0} → Ring A E → A → A → A → A
-next_by o pc target taken = o.plus (o.plus pc (o.number 4)) (o.times taken (o.minus (o.minus target pc) (o.number 4)))
 
 -- the program row behind pc and opcode: two registers and a target
 unfoldable pub branch_numbers : {A E : Type 0} → Ring A E → List A → List A

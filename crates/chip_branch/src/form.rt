@@ -2,10 +2,10 @@
 
 ghost use Rattle.std.specs.Prelude.{◌≡◌, ℕ, ◌+◌, ◌<◌, ◌≤◌, ◌++◌, ◌∷◌, true, List, length, take, slice_index};
 ghost use Rattle.air_core.specs.Ring.{field, cell, cells};
-ghost use Rattle.chip_branch.specs.Branch.{branch_form, branch_touches, branch_numbers, next_by, left_of, right_of, left_filled, right_filled, own_filled, words_filled, times_filled};
+ghost use Rattle.chip_branch.specs.Branch.{branch_form, branch_touches, branch_numbers, left_of, right_of, left_filled, right_filled, own_filled, words_filled, times_filled};
 
 use crate::Condition;
-use adapter_regs::{access_at, gap_at, gap_of, register_read};
+use adapter_regs::{access_at, gap_at, gap_of, next_by, register_read};
 use air_core::{EventSink, HintWord, OutOfMemory, element, flag_sum};
 use gadget_limbs::put;
 use gadget_time::{FormChip, TableForm, Touch, emit_touches, touches_broken};
@@ -24,15 +24,6 @@ pub type BranchChip<C, const HI: u32> = FormChip<BranchForm<C>, HI>;
 
 /// Where the condition's own columns begin, behind the flags.
 const OWN_FROM: usize = 11;
-
-/// pc + 4 + taken * (target - pc - 4)
-#[tactic(auto, unfolding(crate::specs::Branch::next_by))]
-fn next_by(pc: Fe, target: Fe, taken: Fe) -> Fe
-    ensures { result ≡ next_by field pc target taken }
-{
-    let four = Fe::of_u16(4);
-    pc.add(four).add(taken.mul(target.sub(pc).sub(four)))
-}
 
 #[tactic(auto, unfolding(vm_field::specs::Limbs::limbs_at))]
 fn left_of(rest: &[Fe]) -> Limbs

@@ -31,10 +31,10 @@ use Rattle.gadget_time.specs.Form.{Columns, valid_of, owns_of, filled_columns, n
 use Rattle.gadget_time.specs.FormLaws.{FormLaws, FormBounds, IsOther, TellsDone, NoHints}
 use Rattle.adapter_regs.specs.Core.{Operands, operands, IsLookup}
 use Rattle.adapter_regs.specs.Regs.{gap_by, gap_of, gap_cells, access_at, register_touch, limbs_of_zero}
-use Rattle.adapter_regs.specs.lemmas.Access.{filled_access}
+use Rattle.adapter_regs.specs.lemmas.Access.{filled_access, leads_to}
 use Rattle.chip_branch.specs.Branch.{Condition, ConditionLaws, branch_form, branch_numbers, branch_touches, operands_of, left_of, right_of, left_filled, right_filled, place_filled, own_filled, words_filled, times_filled, no_operands, taken_at, AConditionIsAForm}
 use Rattle.chip_branch.specs.lemmas.Means.{apart, branch_shape, branch_meaning}
-use Rattle.chip_branch.specs.lemmas.Sound.{touches_quiet, branch_tells, branch_means, leads_to}
+use Rattle.chip_branch.specs.lemmas.Sound.{touches_quiet, branch_tells, branch_means}
 
 each : {X : Type 0} (P Q : X → Type 0) → ((x : X) → P x → Q x) → (xs : List X) → AllByRecursion P xs → AllByRecursion Q xs
 each P Q f xs h = all_weaker P Q f xs h

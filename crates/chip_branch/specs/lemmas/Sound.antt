@@ -23,7 +23,9 @@ use Rattle.gadget_time.specs.Laws.{CountsSmall}
 use Rattle.gadget_time.specs.Form.{Columns, valid_of}
 use Rattle.gadget_time.specs.FormLaws.{IsAt, FormHolds, InstructionAt, Tells}
 use Rattle.adapter_regs.specs.Core.{Operands}
-use Rattle.chip_branch.specs.Branch.{Condition, ConditionLaws, branch_form, branch_numbers, branch_touches, next_by, operands_of, left_of, right_of, taken_at}
+use Rattle.adapter_regs.specs.Next.{next_by}
+use Rattle.adapter_regs.specs.lemmas.Access.{pointer, leads_to}
+use Rattle.chip_branch.specs.Branch.{Condition, ConditionLaws, branch_form, branch_numbers, branch_touches, operands_of, left_of, right_of, taken_at}
 use Rattle.chip_branch.specs.lemmas.Means.{means_branch}
 
 -- the program tuple read as an instruction
@@ -59,15 +61,6 @@ counts_small own valid rest v = (omega (arith, v), (omega (arith, v), tt))
 slots_low : (own valid : ℕ) (rest : List ℕ) → AllByRecursion (λ a. a.slot < 2) (branch_touches field own valid rest)
 unfolding branch_touches
 slots_low own valid rest = (lit< tt, (lit< tt, tt))
-
-pointer : (x y : ℕ) → x ≡ y → y < 32 → field_mul 4 x ≡ 4 * y
-pointer x y e h = omega arith
-
--- the next pc, by what is taken
-pub leads_to : (b : Bool) (pc target taken : ℕ) → taken ≡ from_bool b → pc < 2 ^ 29 → target < 2 ^ 29 → next_by field pc target taken ≡ (if b then target else word_sum pc 4)
-unfolding next_by
-leads_to true pc target taken e p q = rw e (omega arith)
-leads_to false pc target taken e p q = rw e (omega arith)
 
 module _ (condition : Condition) (laws : ConditionLaws condition) (k : ℕ) (c : Columns ℕ) (at : IsAt (branch_form condition) k c) (holds : FormHolds (branch_form condition) c) (i : InstructionAt (branch_form condition) k c) where
   abbrev o : Operands ℕ

@@ -5,7 +5,8 @@ use Rattle.air_core.specs.Path.{path_lines}
 use Rattle.vm_field.specs.Limbs.{list_of}
 use Rattle.gadget_time.specs.Told.{time_constraint, touch_constraint, touch_lines}
 use Rattle.gadget_time.specs.Form.{columns_by, form_constraints}
-use Rattle.chip_branch.specs.Branch.{next_by, branch_numbers, branch_touches}
+use Rattle.adapter_regs.specs.Next.{next_by}
+use Rattle.chip_branch.specs.Branch.{branch_numbers, branch_touches}
 use Rattle.chip_branch.specs.Conditions.{apart_by, equal_constraints, either_way}
 use Rattle.chip_branch.proofs.laws.branch_eq_is_formal.Goals as goal
 
