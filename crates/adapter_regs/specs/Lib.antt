@@ -1,3 +1,4 @@
 pub mod Regs
 pub mod Core
+pub mod Next
 pub mod lemmas

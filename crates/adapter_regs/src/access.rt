@@ -1,7 +1,8 @@
-//! Accesses of registers.
+//! Accesses of registers, and the next pc of a row that may jump.
 
 ghost use Rattle.std.specs.Prelude.{◌≡◌, ℕ, ◌+◌, ◌≤◌, length, slice_index};
 ghost use Rattle.air_core.specs.Ring.{field};
+ghost use Rattle.adapter_regs.specs.Next.{next_by};
 ghost use Rattle.adapter_regs.specs.Regs.{access_at, gap_by, gap_of, register_touch};
 
 use gadget_time::{Gap, Touch, gap_between};
@@ -28,6 +29,13 @@ pub fn register_touch(
         new,
         gap,
     }
+}
+
+/// The same where the word is read, and stays.
+pub fn register_read(count: Fe, slot: u16, number: Fe, word: &Limbs, gap: Gap) -> Touch
+    ensures { result ≡ register_touch field count slot number word.now word.now gap }
+{
+    register_touch(count, slot, number, *word, *word, gap)
 }
 
 /// The columns of an access's time.
@@ -66,4 +74,13 @@ pub fn access_at(accesses: &AccessList, place: u32) -> TimedAccess
             before: 0,
         },
     }
+}
+
+/// pc + 4 + taken * (target - pc - 4): the target where `taken` is 1, and pc + 4 where it is 0.
+#[tactic(auto, unfolding(crate::specs::Next::next_by))]
+pub fn next_by(pc: Fe, target: Fe, taken: Fe) -> Fe
+    ensures { result ≡ next_by field pc target taken }
+{
+    let four = Fe::of_u16(4);
+    pc.add(four).add(taken.mul(target.sub(pc).sub(four)))
 }

@@ -11,7 +11,7 @@ pub mod records;
 mod regs;
 mod step;
 
-pub use access::{access_at, gap_at, gap_of, register_touch};
+pub use access::{access_at, gap_at, gap_of, next_by, register_read, register_touch};
 pub use form::{RegsChip, RegsForm};
 pub use own::RegsCore;
 pub use regs::{Regs, immediate, numbers, read, touches, words_from};

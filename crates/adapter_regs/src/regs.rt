@@ -4,7 +4,7 @@ ghost use Rattle.std.specs.Prelude.{◌≡◌, ℕ, ◌+◌, ◌<◌, ◌≤◌,
 ghost use Rattle.air_core.specs.Ring.{field};
 ghost use Rattle.adapter_regs.specs.Regs.{regs_of, words_from, first_touch, second_touch, third_touch, regs_touches, regs_numbers, immediate_constraints, regs_cells, time_cells};
 
-use crate::{gap_at, register_touch};
+use crate::{gap_at, register_read, register_touch};
 use air_core::gated_difference;
 use gadget_time::{Gap, Touch};
 use vm_field::{Fe, Limbs};
@@ -68,7 +68,7 @@ pub fn read(immediates: bool, own: usize, pc: Fe, time: Fe, rest: &[Fe]) -> Regs
 fn first_touch(r: &Regs, valid: Fe) -> Touch
     ensures { result ≡ first_touch field r.now valid }
 {
-    register_touch(valid, 0, r.rs1, r.left, r.left, r.first)
+    register_read(valid, 0, r.rs1, &r.left, r.first)
 }
 
 #[tactic(auto, unfolding(crate::specs::Regs::second_touch))]
@@ -76,7 +76,7 @@ fn second_touch(r: &Regs, valid: Fe) -> Touch
     ensures { result ≡ second_touch field r.now valid }
 {
     let count = valid.mul(Fe::ONE.sub(r.use_imm));
-    register_touch(count, 1, r.rs2, r.right, r.right, r.second)
+    register_read(count, 1, r.rs2, &r.right, r.second)
 }
 
 #[tactic(auto, unfolding(crate::specs::Regs::third_touch))]

@@ -1,10 +1,12 @@
--- An access of a register in a row that is filled from a record.
-use Rattle.std.proofs.Common.{◌≡◌, ℕ, ◌+◌, ◌*◌, ◌^◌, ◌≤◌, ◌<◌, List, refl, sym, ap, subst, ◌∙◌, arith, pow_mono}
-use Rattle.std.specs.List.{AllByRecursion}
+-- An access of a register in a row that is filled from a record, and the next pc.
+use Rattle.std.proofs.Common.{◌≡◌, ℕ, ◌+◌, ◌*◌, ◌^◌, ◌≤◌, ◌<◌, Bool, true, false, List, refl, sym, ap, subst, ◌∙◌, arith, pow_mono}
+use Rattle.std.specs.Prelude.{if◌then◌else◌}
+use Rattle.std.specs.Int.{from_bool}
 use Rattle.vm_field.specs.Field.{modulus, field_mul}
 use Rattle.vm_field.specs.declared.limbs.Limbs.{Limbs}
 use Rattle.vm_field.specs.Limbs.{list_of, limbs_from}
 use Rattle.vm_field.proofs.LimbLemmas.{list_of-from}
+use Rattle.vm_word.specs.Arithmetic.{word_sum}
 use Rattle.vm_isa.specs.declared.access.TimedAccess.{TimedAccess}
 use Rattle.vm_isa.specs.Words.{IsBytes, IsWord}
 use Rattle.vm_isa.specs.Means.{Placed, placed, placed_at}
@@ -13,6 +15,7 @@ use Rattle.air_core.specs.Ring.{field}
 use Rattle.air_core.specs.Sheet.{AllBelow}
 use Rattle.gadget_time.specs.Told.{gap_filled, MadeBy}
 use Rattle.gadget_time.specs.lemmas.Filled.{gap_below}
+use Rattle.adapter_regs.specs.Next.{next_by}
 use Rattle.adapter_regs.specs.Regs.{register_touch, gap_cells, gap_of}
 
 -- an access of a record in a row of this time
@@ -78,3 +81,13 @@ filled_access hi time slot number count a new written e is top ends small one wo
       old = bytes_of a.access.old word;
       gap = gap_below a.time a.before f.low;
     }
+
+-- the pointer of a register
+pub pointer : (x y : ℕ) → x ≡ y → y < 32 → field_mul 4 x ≡ 4 * y
+pointer x y e h = omega arith
+
+-- the next pc, by what is taken
+pub leads_to : (b : Bool) (pc target taken : ℕ) → taken ≡ from_bool b → pc < 2 ^ 29 → target < 2 ^ 29 → next_by field pc target taken ≡ (if b then target else word_sum pc 4)
+unfolding next_by
+leads_to true pc target taken e p q = rw e (omega arith)
+leads_to false pc target taken e p q = rw e (omega arith)

@@ -29,6 +29,7 @@ use Rattle.gadget_time.specs.FormLaws.{IsAt, FormHolds, InstructionAt, Tells}
 use Rattle.adapter_regs.specs.declared.regs.Regs.{Regs}
 use Rattle.adapter_regs.specs.Regs.{regs_of, regs_touches, first_touch, second_touch, third_touch, regs_numbers, immediate_constraints}
 use Rattle.adapter_regs.specs.Core.{Core, CoreLaws, Operands, IsCoreAt, IsResult, operands_of, registers, regs_form}
+use Rattle.adapter_regs.specs.lemmas.Access.{pointer}
 use Rattle.vm_isa.specs.Opcodes.{is_register}
 use Rattle.vm_isa.proofs.RegisterForm.{result_word, means_word, means_imm}
 
@@ -101,9 +102,6 @@ right_is_imm r u below bytes h =
     let e2 = limb_equal r.use_imm r.right.x2 r.imm.x2 u below.x2 bytes.1.1.0 h.1.1.0 in
     let e3 = limb_equal r.use_imm r.right.x3 r.imm.x3 u below.x3 bytes.1.1.1.0 h.1.1.1.0 in
     rw (e0, e1, e2, e3) refl
-
-pointer : (x y : ℕ) → x ≡ y → y < 32 → field_mul 4 x ≡ 4 * y
-pointer x y e h = omega arith
 
 step_on : (x y : ℕ) → x ≡ y → y < 2 ^ 29 → field_add x 4 ≡ word_sum y 4
 step_on x y e h = omega arith
