@@ -10,10 +10,9 @@ mod link;
 mod tests;
 
 pub use auipc::AuipcForm;
+use gadget_time::FormChip;
 pub use jal_lui::JalLuiForm;
 pub use jalr::JalrForm;
-
-use gadget_time::FormChip;
 
 /// The table of JAL and LUI, whose times have HI bits above the lower 16.
 pub type JalLuiAt<const HI: u32> = FormChip<JalLuiForm, HI>;
