@@ -1,12 +1,10 @@
 -- The constraints of the form with immediates and without, and its columns behind the flags, part behind part.
-use Rattle.std.proofs.Common.{◌≡◌, ℕ, ◌+◌, Bool, true, false, cond, List, [], ◌∷◌, ◌++◌, length, take, refl, sym, ap, ◌∙◌, arith, length-append, append_assoc}
-use Rattle.std.proofs.lemmas.List.{take_all}
-use Rattle.vm_field.specs.Limbs.{list_of}
+use Rattle.std.proofs.Common.{◌≡◌, ℕ, ◌+◌, Bool, true, false, cond, List, [], ◌++◌, length, refl, arith, length-append}
 use Rattle.air_core.specs.First.{first_from, or_else}
 use Rattle.air_core.specs.Ring.{field}
 use Rattle.air_core.proofs.FirstLemmas.{first_from-part}
 use Rattle.adapter_regs.specs.declared.regs.Regs.{Regs}
-use Rattle.adapter_regs.specs.Regs.{immediate_constraints, regs_cells, time_cells, words_from}
+use Rattle.adapter_regs.specs.Regs.{immediate_constraints}
 
 length-immediate : (r : Regs ℕ) → length (immediate_constraints field r) ≡ 4
 unfolding immediate_constraints

@@ -1,7 +1,5 @@
 -- Records of steps of both operand forms are ones that the table's rows are filled from.
-use Rattle.std.proofs.Common.{◌≡◌, ℕ, ◌+◌, ◌*◌, ◌^◌, ◌<◌, ◌≤◌, ◌∙◌, Bool, true, false, if◌then◌else◌, nat_le, List, [], ◌∷◌, map, refl, arith, lit<}
-use Rattle.std.proofs.lemmas.Bool.{and_parts, leb-true}
-use Rattle.std.proofs.lemmas.Bool.Decides.{nat_tests}
+use Rattle.std.proofs.Common.{◌≡◌, ℕ, ◌+◌, ◌*◌, ◌^◌, ◌<◌, ◌≤◌, ◌∙◌, Bool, true, false, if◌then◌else◌, List, [], ◌∷◌, map, refl, arith, lit<}
 use Rattle.vm_word.specs.Word.{limbs_of}
 use Rattle.vm_word.specs.Arithmetic.{word_sum}
 use Rattle.vm_word.proofs.WordLemmas.{word_of_limbs-limbs_of}
@@ -15,7 +13,7 @@ use Rattle.vm_isa.specs.Instr.{InRange}
 use Rattle.vm_isa.specs.Results.{result}
 use Rattle.vm_isa.specs.Means.{Fillable, Placed, placed_at}
 use Rattle.gadget_limbs.proofs.LimbsLaws.{limbs_word}
-use Rattle.vm_isa.proofs.RegisterForm.{apart, register_slots, by_word, by_imm, means_word, means_imm, reads, writes, result_word}
+use Rattle.vm_isa.proofs.RegisterForm.{register_slots, by_word, by_imm, means_word, means_imm, reads, writes, result_word}
 use Rattle.vm_isa.proofs.InRangeLaws.{Fits, alu_in_range, mul_in_range}
 
 -- the instruction that reads x6

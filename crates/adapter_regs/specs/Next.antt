@@ -1,5 +1,4 @@
 -- The next pc of a row that may jump.
-use Rattle.std.specs.Prelude.{ℕ}
 use Rattle.air_core.specs.Ring.{Ring}
 
 -- pc + 4 + taken * (target - pc - 4)

@@ -10,14 +10,7 @@ use vm_field::{Fe, Limbs};
 use vm_isa::{Access, AccessList, TimedAccess, space};
 
 /// The access of the register of a number, `slot` after the row's time. One that keeps its word has the same old and new.
-pub fn register_touch(
-    count: Fe,
-    slot: u16,
-    number: Fe,
-    old: Limbs,
-    new: Limbs,
-    gap: Gap,
-) -> Touch
+pub fn register_touch(count: Fe, slot: u16, number: Fe, old: Limbs, new: Limbs, gap: Gap) -> Touch
     ensures { result ≡ register_touch field count slot number old new gap }
 {
     Touch {

@@ -1,6 +1,6 @@
 //! Filled rows, by hand and of edge words.
 
-ghost use Rattle.std.specs.Prelude.{◌≡◌, ◌≤◌, ◌<◌, ◌^◌, true, IfOk};
+ghost use Rattle.std.specs.Prelude.{◌≡◌, ◌≤◌, ◌<◌, ◌^◌, true, IfOk, length};
 ghost use Rattle.vm_isa.specs.Opcodes.{is_from};
 
 use crate::{
@@ -101,6 +101,26 @@ fn step(
     })
 }
 
+/// Writes the columns behind the flags of a row of 26.
+fn fill_equal(done: &StepRecord, row: &mut [Fe])
+    requires wide { length row.old ≡ 26 }
+    requires owned { is_from 19 20 done.now.instr.op ≡ true }
+    requires pc_low { done.now.instr.pc < 2 ^ 29 }
+    requires time_low { done.now.time < 2 ^ 29 }
+{
+    BranchForm::<EqualCondition>::fill(done, &mut row[4..]);
+}
+
+/// And of one of 31.
+fn fill_order(done: &StepRecord, row: &mut [Fe])
+    requires wide { length row.old ≡ 31 }
+    requires owned { is_from 21 24 done.now.instr.op ≡ true }
+    requires pc_low { done.now.instr.pc < 2 ^ 29 }
+    requires time_low { done.now.time < 2 ^ 29 }
+{
+    BranchForm::<OrderCondition>::fill(done, &mut row[6..]);
+}
+
 fn equal_row(
     alloc: Global,
     op: u8,
@@ -116,7 +136,7 @@ fn equal_row(
     row[0] = element(pc);
     row[1] = element(70000);
     row[2 + (op - opcode::BEQ) as usize] = Fe::ONE;
-    BranchForm::<EqualCondition>::fill(&done, &mut row[4..]);
+    fill_equal(&done, &mut row);
     Ok(row)
 }
 
@@ -135,7 +155,7 @@ fn order_row(
     row[0] = element(pc);
     row[1] = element(70000);
     row[2 + (op - opcode::BLT) as usize] = Fe::ONE;
-    BranchForm::<OrderCondition>::fill(&done, &mut row[6..]);
+    fill_order(&done, &mut row);
     Ok(row)
 }
 
@@ -145,7 +165,8 @@ fn order_row(
 fn by_hand(rt: HostRuntime) -> Result<(), Fail> {
     let row = equal_row(rt.alloc(), opcode::BNE, 4096, (0x0102_0304, 0x0102_0504), 8)?;
     assert_eq!(rt; equal_said(rt.alloc(), &row)?, (Refusal::Nothing, 8));
-    assert_eq!(rt; row[17].mul(element(2)), Fe::ZERO.sub(Fe::ONE));
+    let twice = row[17].mul(element(2));
+    assert_eq!(rt; twice, Fe::ZERO.sub(Fe::ONE));
     for (column, place) in [(2, 2), (15, 5), (17, 8), (8, 8), (20, 9), (23, 10)] {
         let mut wrong = row;
         wrong[column] = wrong[column].add(Fe::ONE);
@@ -168,7 +189,8 @@ fn equal_words(rt: HostRuntime) -> Result<(), Fail> {
     )?;
     assert_eq!(rt; order_said(rt.alloc(), &row)?, (Refusal::Nothing, 4100));
     for i in 19..25 {
-        assert_eq!(rt; row[i], Fe::ZERO);
+        let number = row[i].value();
+        assert_eq!(rt; number, 0);
     }
     for (column, place) in [(19, 18), (24, 13), (20, 19)] {
         let mut wrong = row;

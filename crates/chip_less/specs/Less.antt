@@ -8,7 +8,7 @@ use Rattle.air_core.specs.Ring.{Ring, field, cell}
 use Rattle.gadget_limbs.specs.Less.{less_columns, less_cells, less_constraints, less_ranges, less_filled}
 use Rattle.gadget_limbs.specs.OrderLaws.{digits_of}
 use Rattle.gadget_limbs.specs.Ranges.{range_lines}
-use Rattle.adapter_regs.specs.Core.{Core, CoreParts, Operands}
+use Rattle.adapter_regs.specs.Core.{Core, CoreParts}
 
 abbrev pub less_opcodes : List ℕ
 less_opcodes = SLT ∷ SLTU ∷ []

@@ -1,5 +1,5 @@
 -- How LT's constraints and columns go on from a limb to those above it.
-use Rattle.std.proofs.Common.{◌≡◌, ℕ, suc, ◌+◌, ◌*◌, ◌-◌, ◌<◌, ◌≤◌, nat_lt, nat_eq, List, [], ◌∷◌, ◌++◌, Option, Some, None, length, map, get_or, take, drop, set, slice_index, refl, sym, ap, ◌∙◌, arith, add-one, drop-cons}
+use Rattle.std.proofs.Common.{◌≡◌, ℕ, ◌+◌, ◌*◌, ◌<◌, ◌≤◌, nat_lt, nat_eq, List, [], ◌∷◌, ◌++◌, Option, Some, None, length, map, get_or, drop, set, refl, sym, ap, ◌∙◌, arith, add-one, drop-cons}
 use Rattle.std.specs.Prelude.{if◌then◌else◌, ◌==◌}
 use Rattle.std.specs.Int.{from_bool}
 use Rattle.std.proofs.Math.ListN.{drop_of_length-le}

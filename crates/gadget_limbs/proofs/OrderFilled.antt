@@ -5,15 +5,15 @@ use Rattle.std.specs.Int.{from_bool}
 use Rattle.std.specs.List.{AllByRecursion}
 use Rattle.std.proofs.lemmas.Bool.{cases_eq, cases_lt, ne_eqb}
 use Rattle.std.proofs.lemmas.Bool.Decides.{nat_tests}
-use Rattle.vm_field.specs.Field.{modulus, field_add, field_sub, field_mul}
+use Rattle.vm_field.specs.Field.{field_add, field_sub, field_mul}
 use Rattle.vm_field.proofs.Constraints.{gate_off, boolean_holds}
 use Rattle.vm_isa.specs.Words.{IsBytes}
 use Rattle.air_core.specs.First.{bit}
 use Rattle.air_core.specs.Ring.{field}
-use Rattle.air_core.specs.Sheet.{AllZero, AllBelow}
+use Rattle.air_core.specs.Sheet.{AllZero}
 use Rattle.air_core.specs.ListLemmas.{all_append, all_weaker}
 use Rattle.gadget_limbs.specs.Number.{number_of}
-use Rattle.gadget_limbs.specs.Less.{Digits, LessColumns, count, mark, apart, marks_of, distance_of, below_of, marks_sum, equal_above, marked_differs, differences, top_constraint, less_constraints, less_ranges, less_filled, ordered_limbs, ordered}
+use Rattle.gadget_limbs.specs.Less.{Digits, count, mark, apart, marks_of, distance_of, below_of, marks_sum, equal_above, marked_differs, differences, top_constraint, less_constraints, less_ranges, less_filled, ordered_limbs}
 use Rattle.gadget_limbs.specs.OrderLaws.{AreDigits, LessBelow, LessMeets}
 use Rattle.gadget_limbs.proofs.Ordering.{minus, moved}
 

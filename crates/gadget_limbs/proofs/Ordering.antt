@@ -1,5 +1,5 @@
 -- What LT says, at any number of limbs.
-use Rattle.std.proofs.Common.{◌≡◌, ℕ, zero, suc, ◌+◌, ◌-◌, ◌*◌, ◌%◌, ◌^◌, ◌<◌, ◌≤◌, nat_lt, List, [], ◌∷◌, ◌++◌, length, map, refl, sym, ap, ◌∙◌, arith, inl, inr, ⊎_elim, length-append}
+use Rattle.std.proofs.Common.{◌≡◌, ℕ, zero, suc, ◌+◌, ◌-◌, ◌*◌, ◌%◌, ◌<◌, ◌≤◌, nat_lt, List, [], ◌∷◌, ◌++◌, length, map, refl, arith, inl, inr, ⊎_elim}
 use Rattle.std.specs.Int.{from_bool}
 use Rattle.std.specs.List.{AllByRecursion}
 use Rattle.std.proofs.lemmas.Bool.{cases_eq}
@@ -10,9 +10,9 @@ use Rattle.vm_isa.specs.Words.{IsBytes}
 use Rattle.air_core.specs.First.{bit}
 use Rattle.air_core.specs.Ring.{field}
 use Rattle.air_core.specs.Sheet.{AllZero}
-use Rattle.air_core.specs.ListLemmas.{all_left, all_right, all_append}
+use Rattle.air_core.specs.ListLemmas.{all_left, all_right}
 use Rattle.gadget_limbs.specs.Number.{number_of}
-use Rattle.gadget_limbs.specs.Less.{Digits, LessColumns, marks_sum, equal_above, marked_differs, top_constraint, differences, less_constraints, less_ranges, ordered_limbs, ordered}
+use Rattle.gadget_limbs.specs.Less.{Digits, LessColumns, marks_sum, equal_above, marked_differs, top_constraint, differences, less_constraints, less_ranges, ordered}
 use Rattle.gadget_limbs.specs.OrderLaws.{AreDigits, LessBelow, LessMeets}
 
 -- the differences are those of the limbs

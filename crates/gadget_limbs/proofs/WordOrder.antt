@@ -1,16 +1,15 @@
 -- LT of words: what its columns say, and those that are filled.
-use Rattle.std.proofs.Common.{◌≡◌, ℕ, ◌<◌, ◌≤◌, Bool, true, false, List, [], ◌∷◌, length, refl, ap, ◌∙◌, arith, lit≤}
+use Rattle.std.proofs.Common.{◌≡◌, ℕ, ◌≤◌, Bool, true, false, List, length, refl, ap, ◌∙◌, arith, lit≤}
 use Rattle.std.specs.Int.{from_bool}
-use Rattle.std.specs.List.{AllByRecursion}
 use Rattle.vm_field.specs.declared.limbs.Limbs.{Limbs}
 use Rattle.vm_field.specs.Limbs.{list_of}
 use Rattle.vm_word.specs.Word.{word_of_limbs}
 use Rattle.vm_isa.specs.Words.{IsBytes}
 use Rattle.air_core.specs.ListLemmas.{below_at}
 use Rattle.air_core.specs.Ring.{field, cell}
-use Rattle.air_core.specs.Sheet.{AllZero, AllBelow}
+use Rattle.air_core.specs.Sheet.{AllBelow}
 use Rattle.air_core.specs.lemmas.Cells.{cells_below}
-use Rattle.gadget_limbs.specs.Less.{LessColumns, less_columns, less_cells, less_constraints, less_ranges, less_filled, marks_of}
+use Rattle.gadget_limbs.specs.Less.{less_columns, less_cells, less_ranges, less_filled, marks_of}
 use Rattle.gadget_limbs.specs.OrderLaws.{AreDigits, LessBelow, LessMeets, digits_of, word_less}
 use Rattle.gadget_limbs.proofs.Ordering.{less_law}
 use Rattle.gadget_limbs.proofs.OrderFilled.{less_holds}

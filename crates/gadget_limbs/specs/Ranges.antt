@@ -1,5 +1,5 @@
 -- Lookups of numbers in the range table.
-use Rattle.std.specs.Prelude.{ℕ, List, [], ◌∷◌, map}
+use Rattle.std.specs.Prelude.{List, [], ◌∷◌, map}
 use Rattle.air_core.specs.declared.bus.TheConstants.{RANGE}
 use Rattle.air_core.specs.declared.event.Side.TheVariants.{Send}
 use Rattle.air_core.specs.Ring.{Ring}

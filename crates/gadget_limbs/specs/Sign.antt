@@ -1,5 +1,5 @@
 -- SIGN and NEG: the sign bit of a word, and the negative of a number by its limbs.
-use Rattle.std.specs.Prelude.{ℕ, List, [], ◌∷◌, ◌++◌, length, replicate}
+use Rattle.std.specs.Prelude.{List, [], ◌∷◌, ◌++◌, length, replicate}
 use Rattle.air_core.specs.First.{bit}
 use Rattle.air_core.specs.Ring.{Ring}
 use Rattle.gadget_limbs.specs.Sum.{sum_constraints}

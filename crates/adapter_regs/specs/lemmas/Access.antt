@@ -2,7 +2,7 @@
 use Rattle.std.proofs.Common.{◌≡◌, ℕ, ◌+◌, ◌*◌, ◌^◌, ◌≤◌, ◌<◌, Bool, true, false, List, refl, sym, ap, subst, ◌∙◌, arith, pow_mono}
 use Rattle.std.specs.Prelude.{if◌then◌else◌}
 use Rattle.std.specs.Int.{from_bool}
-use Rattle.vm_field.specs.Field.{modulus, field_mul}
+use Rattle.vm_field.specs.Field.{field_mul}
 use Rattle.vm_field.specs.declared.limbs.Limbs.{Limbs}
 use Rattle.vm_field.specs.Limbs.{list_of, limbs_from}
 use Rattle.vm_field.proofs.LimbLemmas.{list_of-from}

@@ -1,5 +1,5 @@
 -- The columns of a step of the register form: they hold, and they say the record.
-use Rattle.std.proofs.Common.{◌≡◌, ℕ, ◌+◌, ◌*◌, ◌^◌, ◌≤◌, ◌<◌, ⊎_elim, true, false, List, [], ◌∷◌, ◌++◌, Option, Some, None, refl, sym, ap, subst, ◌∙◌, arith, lit<}
+use Rattle.std.proofs.Common.{◌≡◌, ℕ, ◌+◌, ◌^◌, ◌≤◌, ◌<◌, ⊎_elim, true, false, List, [], ◌∷◌, ◌++◌, Option, Some, None, refl, sym, subst, ◌∙◌, arith, lit<}
 use Rattle.std.specs.List.{AllByRecursion}
 use Rattle.std.proofs.lemmas.Bool.{cases_Bool}
 use Rattle.vm_field.specs.Field.{modulus, field_add, field_sub}
@@ -10,7 +10,6 @@ use Rattle.vm_isa.specs.declared.record.StepRecord.{StepRecord}
 use Rattle.vm_isa.specs.Words.{IsBytes, IsWord}
 use Rattle.vm_isa.specs.Instr.{InRange, numbers_of}
 use Rattle.vm_isa.specs.Means.{Fillable}
-use Rattle.air_core.specs.declared.event.Event.{Event}
 use Rattle.air_core.specs.First.{gated_difference}
 use Rattle.air_core.specs.Ring.{field}
 use Rattle.air_core.specs.Sheet.{AllZero, AllBelow}

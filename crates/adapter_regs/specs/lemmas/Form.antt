@@ -1,16 +1,14 @@
 -- A core with its laws is a form with its laws.
-use Rattle.std.proofs.Common.{◌≡◌, ◌≢◌, ℕ, zero, suc, ◌+◌, ◌*◌, ◌^◌, ◌<◌, ◌≤◌, Bool, true, false, cond, ◌||◌, nat_eq, List, [], ◌∷◌, ◌++◌, length, map, replicate, slice_index, refl, sym, ap, subst, ◌∙◌, arith, lit≤, lit<, length-append}
+use Rattle.std.proofs.Common.{◌≡◌, ℕ, ◌+◌, ◌<◌, ◌≤◌, Bool, true, false, cond, nat_eq, List, [], ◌++◌, length, map, replicate, slice_index, refl, sym, ap, subst, ◌∙◌, arith, lit≤, length-append}
 use Rattle.std.specs.List.{AllByRecursion}
 use Rattle.std.proofs.lemmas.Bool.Decides.{nat_tests}
-use Rattle.vm_word.specs.Word.{word_of_limbs, limbs_of}
+use Rattle.vm_word.specs.Word.{limbs_of}
 use Rattle.vm_isa.specs.declared.record.StepRecord.{StepRecord}
 use Rattle.vm_isa.specs.Slots.{slots_of}
 use Rattle.vm_isa.specs.Opcodes.{is_mul, HINT, HINT_NEXT}
-use Rattle.vm_isa.specs.Words.{IsBytes}
 use Rattle.vm_isa.specs.Means.{Fillable}
 use Rattle.vm_field.specs.declared.limbs.Limbs.{Limbs}
-use Rattle.vm_field.specs.Limbs.{list_of, limbs_by, limbs_from}
-use Rattle.vm_field.proofs.Constraints.{gate_off}
+use Rattle.vm_field.specs.Limbs.{list_of, limbs_from}
 use Rattle.vm_field.proofs.LimbLemmas.{limbs_same, length-list_of}
 use Rattle.gadget_limbs.proofs.LimbsLaws.{limbs_of-word}
 use Rattle.air_core.specs.declared.event.Event.{Event}
@@ -18,22 +16,20 @@ use Rattle.air_core.specs.First.{gated_difference}
 use Rattle.air_core.specs.Flags.{one_hot}
 use Rattle.air_core.specs.Ring.{field, cells}
 use Rattle.air_core.specs.Sheet.{AllZero, AllBelow}
-use Rattle.air_core.specs.Lookups.{GoodEvent}
 use Rattle.air_core.specs.FlagLaws.{sum_none}
 use Rattle.air_core.specs.ListLemmas.{all_append, all_weaker, all_right}
-use Rattle.air_core.specs.lemmas.Cells.{length-cells, cells_back, cells_of_zeros, index_zeros, behind}
-use Rattle.air_core.specs.lemmas.OneHot.{of_owned, zeros_hold, sum_one, length-one_hot}
-use Rattle.gadget_time.specs.Told.{touch_constraint, time_constraint, MadeByAll}
-use Rattle.gadget_time.specs.Form.{Columns, parts_of, valid_of, owns_of, filled_columns, no_columns}
-use Rattle.gadget_time.specs.FormLaws.{FormLaws, FormBounds, IsOther, IsAt, FormHolds, TellsDone, NoHints}
+use Rattle.air_core.specs.lemmas.Cells.{cells_back, cells_of_zeros, index_zeros, behind}
+use Rattle.air_core.specs.lemmas.OneHot.{of_owned, zeros_hold, sum_one}
+use Rattle.gadget_time.specs.Told.{touch_constraint, time_constraint}
+use Rattle.gadget_time.specs.Form.{valid_of, owns_of, filled_columns, no_columns}
+use Rattle.gadget_time.specs.FormLaws.{FormLaws, FormBounds, IsOther, TellsDone, NoHints}
 use Rattle.adapter_regs.specs.declared.regs.Regs.{Regs}
-use Rattle.adapter_regs.specs.Regs.{regs_of, words_from, limbs_of_zero, regs_touches, first_touch, second_touch, third_touch, regs_numbers, immediate_constraints, regs_filled, new_filled, regs_cells, time_cells}
-use Rattle.adapter_regs.specs.Core.{Core, CoreLaws, Operands, operands, operands_of, registers, regs_form, IsLookup, IsCoreAt, IsResult, IsResultOf, IsPlaced, IsGoodCore, no_operands, place_filled, own_filled, ACoreIsAForm}
+use Rattle.adapter_regs.specs.Regs.{regs_of, words_from, limbs_of_zero, regs_touches, first_touch, second_touch, third_touch, immediate_constraints, regs_filled, new_filled, regs_cells, time_cells}
+use Rattle.adapter_regs.specs.Core.{Core, CoreLaws, operands, operands_of, registers, regs_form, IsLookup, IsCoreAt, IsResult, no_operands, place_filled, own_filled}
 use Rattle.vm_isa.specs.Opcodes.{is_register}
-use Rattle.vm_isa.specs.Results.{result}
 use Rattle.vm_isa.proofs.RegisterForm.{register_slots, apart}
 use Rattle.adapter_regs.specs.lemmas.Sound.{touches_quiet, regs_tell, regs_mean}
-use Rattle.adapter_regs.specs.lemmas.Filled.{RegsFilled, FilledColumns, columns_filled, is_instruction, goes_on}
+use Rattle.adapter_regs.specs.lemmas.Filled.{columns_filled, is_instruction, goes_on}
 
 each : {X : Type 0} (P Q : X → Type 0) → ((x : X) → P x → Q x) → (xs : List X) → AllByRecursion P xs → AllByRecursion Q xs
 each P Q f xs h = all_weaker P Q f xs h

@@ -1,5 +1,5 @@
 -- The meaning of an instruction by its places, and what it says of a record.
-use Rattle.std.proofs.Common.{◌≡◌, ℕ, nat_eq, true, false, List, Some, length, map, refl, sym, ap, ◌∙◌, arith}
+use Rattle.std.proofs.Common.{◌≡◌, ℕ, false, List, Some, length, map, refl, sym, ap, ◌∙◌}
 use Rattle.std.proofs.lemmas.Bool.{eq-eqb}
 use Rattle.vm_isa.specs.declared.instr.VmInstr.{VmInstr}
 use Rattle.vm_isa.specs.declared.access.TimedAccess.{TimedAccess}

@@ -1,10 +1,9 @@
 -- What a row of the register form tells: its accesses, and its meaning, where its core's laws hold.
-use Rattle.std.proofs.Common.{◌≡◌, ℕ, ◌+◌, ◌*◌, ◌^◌, ◌≤◌, ◌<◌, Bool, true, false, cond, List, [], ◌∷◌, ◌++◌, length, slice_index, refl, sym, ap, subst, ◌∙◌, arith, lit<, lit≤}
+use Rattle.std.proofs.Common.{◌≡◌, ℕ, ◌^◌, ◌≤◌, ◌<◌, Bool, true, false, cond, List, [], ◌∷◌, ◌++◌, length, slice_index, refl, sym, ap, subst, ◌∙◌, arith, lit<, lit≤}
 use Rattle.std.specs.List.{AllByRecursion}
-use Rattle.std.proofs.lemmas.Bool.{cases_Bool}
 use Rattle.vm_field.specs.Field.{modulus, field_add, field_mul}
 use Rattle.vm_field.proofs.Constraints.{gated_equal}
-use Rattle.vm_word.specs.Word.{word_of_limbs, limbs_of}
+use Rattle.vm_word.specs.Word.{limbs_of}
 use Rattle.vm_word.specs.Arithmetic.{word_sum}
 use Rattle.vm_isa.specs.declared.instr.VmInstr.{VmInstr}
 use Rattle.vm_isa.specs.Words.{IsBytes}
@@ -14,8 +13,8 @@ use Rattle.vm_field.specs.declared.limbs.Limbs.{Limbs}
 use Rattle.vm_field.specs.Limbs.{list_of, limbs_by, LimbsBelow}
 use Rattle.vm_field.proofs.LimbLemmas.{length-list_of}
 use Rattle.air_core.specs.First.{gated_difference}
-use Rattle.air_core.specs.Flags.{sum_from, one_hot}
-use Rattle.air_core.specs.Ring.{field, cells}
+use Rattle.air_core.specs.Flags.{sum_from}
+use Rattle.air_core.specs.Ring.{field}
 use Rattle.air_core.specs.Sheet.{AllZero, AllBelow}
 use Rattle.air_core.specs.Step.{Touched, IsMeaning}
 use Rattle.air_core.specs.ListLemmas.{all_left, all_right, below_at}
@@ -28,7 +27,7 @@ use Rattle.gadget_time.specs.Form.{Columns, valid_of}
 use Rattle.gadget_time.specs.FormLaws.{IsAt, FormHolds, InstructionAt, Tells}
 use Rattle.adapter_regs.specs.declared.regs.Regs.{Regs}
 use Rattle.adapter_regs.specs.Regs.{regs_of, regs_touches, first_touch, second_touch, third_touch, regs_numbers, immediate_constraints}
-use Rattle.adapter_regs.specs.Core.{Core, CoreLaws, Operands, IsCoreAt, IsResult, operands_of, registers, regs_form}
+use Rattle.adapter_regs.specs.Core.{Core, CoreLaws, Operands, IsResult, operands_of, registers, regs_form}
 use Rattle.adapter_regs.specs.lemmas.Access.{pointer}
 use Rattle.vm_isa.specs.Opcodes.{is_register}
 use Rattle.vm_isa.proofs.RegisterForm.{result_word, means_word, means_imm}

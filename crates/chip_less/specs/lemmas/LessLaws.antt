@@ -1,29 +1,26 @@
 -- The laws of the core of SLT and SLTU.
-use Rattle.std.proofs.Common.{◌≡◌, ◌≢◌, ℕ, zero, suc, ◌^◌, ◌<◌, ◌≤◌, Bool, true, false, nat_eq, nat_lt, List, [], ◌∷◌, length, slice_index, refl, sym, ap, subst, ◌∙◌, arith, lit≤}
+use Rattle.std.proofs.Common.{◌≡◌, ◌≢◌, ℕ, zero, suc, ◌<◌, ◌≤◌, Bool, true, false, nat_eq, List, length, slice_index, refl, sym, ap, subst, ◌∙◌, arith, lit≤}
 use Rattle.std.specs.Int.{from_bool}
 use Rattle.std.specs.List.{AllByRecursion, list_any}
 use Rattle.vm_field.specs.declared.limbs.Limbs.{Limbs}
 use Rattle.vm_field.specs.Limbs.{list_of}
-use Rattle.vm_word.specs.Word.{word_of_limbs, limbs_of}
-use Rattle.vm_word.specs.Arithmetic.{signed_less}
+use Rattle.vm_word.specs.Word.{word_of_limbs}
 use Rattle.vm_isa.specs.Words.{IsBytes}
 use Rattle.vm_word.specs.Operations.{word_of_test}
 use Rattle.vm_isa.specs.Results.{result, alu}
 use Rattle.air_core.specs.First.{bit}
 use Rattle.air_core.specs.Flags.{sum_from, one_hot, opcode_place}
 use Rattle.air_core.specs.FlagLaws.{sum_none}
-use Rattle.air_core.specs.ListLemmas.{by_zero_test, zero_test, below_at}
+use Rattle.air_core.specs.ListLemmas.{by_zero_test, zero_test}
 use Rattle.air_core.specs.Lookups.{GoodEvent}
-use Rattle.air_core.specs.Ring.{field, cell, cells}
-use Rattle.air_core.specs.Sheet.{AllZero, AllBelow}
-use Rattle.air_core.specs.lemmas.Cells.{cells_below}
+use Rattle.air_core.specs.Ring.{field, cell}
+use Rattle.air_core.specs.Sheet.{AllZero}
 use Rattle.air_core.specs.lemmas.OneHot.{is_place, sum_one}
 use Rattle.gadget_limbs.specs.Less.{less_columns, less_constraints, less_ranges, marks_sum, equal_above, marked_differs, differences, top_constraint}
 use Rattle.gadget_limbs.specs.OrderLaws.{LessMeets, digits_of, word_less}
-use Rattle.gadget_limbs.specs.Ranges.{range_lines}
 use Rattle.gadget_limbs.proofs.WordOrder.{word_order, filled_cells, filled_order}
 use Rattle.gadget_limbs.proofs.RangeLaws.{ranges_good, good_ranges, ranges_count, ranges_silent}
-use Rattle.adapter_regs.specs.Core.{Operands, CoreLaws, IsCoreAt, IsResult, IsResultOf, IsGoodCore, IsPlaced, IsLookup, no_operands}
+use Rattle.adapter_regs.specs.Core.{Operands, CoreLaws, IsCoreAt, IsResult, IsGoodCore, IsPlaced, IsLookup, no_operands}
 use Rattle.chip_less.specs.Less.{less_core, less_opcodes, result_of, signed_at}
 
 -- which order the place of a flag asks for

@@ -1,4 +1,4 @@
-use Rattle.std.proofs.Common.{◌≡◌, ◌+◌, ◌-◌, ◌*◌, ◌<◌, ℕ, List, [], ◌∷◌, ◌++◌, length, take, drop, get_or, slice_index, subst, sym, ap, ◌∙◌, refl, arith}
+use Rattle.std.proofs.Common.{◌≡◌, ◌+◌, ◌-◌, ◌<◌, ℕ, List, [], ◌∷◌, ◌++◌, length, take, drop, get_or, slice_index, sym, ap, ◌∙◌, refl, arith}
 use Rattle.std.proofs.lemmas.List.{get_or_default, get_or_read_under, length-take-le}
 use Rattle.std.proofs.Common.{length-append}
 use Rattle.vm_field.specs.Field.{field_sub, field_mul}

@@ -1,4 +1,4 @@
-use Rattle.std.proofs.Common.{◌≡◌, ◌+◌, ◌-◌, ℕ, subst, sym, ap, arith}
+use Rattle.std.proofs.Common.{◌≡◌, ◌+◌, ◌-◌, ℕ, subst, arith}
 use Rattle.std.proofs.Math.Nat.{add-zero}
 use Rattle.gadget_limbs.proofs.LessSteps.{Upper, upper_end, upper_step}
 use Rattle.gadget_limbs.proofs.less.marks_broken.Goals as goal

@@ -1,4 +1,4 @@
-use Rattle.std.proofs.Common.{◌≡◌, ◌+◌, ◌-◌, ℕ, subst, sym, ap, ◌∙◌, arith, length}
+use Rattle.std.proofs.Common.{◌≡◌, ◌+◌, ◌-◌, ℕ, subst, arith, length}
 use Rattle.gadget_limbs.proofs.LessSteps.{Marks, marks_end, marks_step}
 use Rattle.gadget_limbs.proofs.order.mark_highest.Goals as goal
 

@@ -1,4 +1,4 @@
-use Rattle.std.proofs.Common.{rules, arith, ◌≡◌, ◌≤◌, ◌<◌, ◌+◌, [], ◌∷◌, length, take, drop, ◌++◌, sym, subst}
+use Rattle.std.proofs.Common.{rules, arith, ◌+◌, [], ◌∷◌, take, drop, ◌++◌, sym, subst}
 use Rattle.std.proofs.lemmas.List.{length-take-le}
 use Rattle.air_core.specs.ListLemmas.{counted_length}
 use Rattle.air_core.specs.Ring.{field}

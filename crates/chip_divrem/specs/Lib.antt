@@ -1,0 +1,3 @@
+pub mod DivRem
+pub mod Laws
+pub mod lemmas
