@@ -70,7 +70,7 @@ draws_piece {a = a} {b} {s} {t} count into is_open empty reads ahead at = record
 
 -- ---- what is told
 
-told_draws : {a b : Held} {s t : HostState} (d : Draws a b s t) → (told_by a s).rest ≡ after_these d.given (told_by b t).rest
+pub told_draws : {a b : Held} {s t : HostState} (d : Draws a b s t) → (told_by a s).rest ≡ after_these d.given (told_by b t).rest
 told_draws {a = a} {b} {s} {t} d =
     ap (after_these a.ahead) d.took.taken
     ∙ after_both a.ahead d.taken (t.input Second).rest
@@ -109,7 +109,7 @@ fault_later a b c (Refused reason) le rose = tt
 fault_later a b c Fault le rose = rose_later a b c le rose
 fault_later a b c OutOfMemory le rose = tt
 
-never_refused : (e : Stop Reason) (P : Reason → Type 0) → IfRefused e (λ reason. ⊥) → IfRefused e P
+pub never_refused : (e : Stop Reason) (P : Reason → Type 0) → IfRefused e (λ reason. ⊥) → IfRefused e P
 never_refused (Refused reason) P never = absurd never
 never_refused Fault P never = tt
 never_refused OutOfMemory P never = tt

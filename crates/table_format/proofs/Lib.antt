@@ -7,3 +7,4 @@ pub mod ExactFile
 pub mod Pieces
 pub mod Draws
 pub mod Drawn
+pub mod Advancing

@@ -4,6 +4,8 @@ pub mod Order
 pub mod Exactly
 pub mod Stream
 pub mod Items
+pub mod Reader
+pub mod ReadsItems
 pub mod File
 pub mod Reading
 pub mod Laws

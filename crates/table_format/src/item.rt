@@ -28,3 +28,37 @@ pub struct Claim {
     pub public: [u8; 64],
     pub path: [Digest; 25],
 }
+
+/// What a reader gives, in the order of the file.
+#[derive(Clone, Copy, Debug, PartialEq, Eq)]
+pub enum Item {
+    /// Whether a segment follows, or the claim.
+    Marker {
+        more: bool,
+    },
+    Segment {
+        connector: Connector,
+        start: Digest,
+        end: Digest,
+    },
+    /// How many rows a table has.
+    Height {
+        table: u32,
+        height: u32,
+    },
+    /// The reader has the row's values.
+    Row {
+        table: u32,
+        place: u32,
+    },
+    Count {
+        list: CountList,
+        entry: CountEntry,
+    },
+    Page(Touched),
+    SiblingCount(u32),
+    Sibling(Digest),
+    Claim(Claim),
+    /// Nothing follows.
+    End,
+}

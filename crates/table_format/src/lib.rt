@@ -10,7 +10,9 @@ pub mod laws;
 mod reader;
 mod reason;
 mod source;
+mod stage;
 mod stream;
+mod table_reader;
 mod take;
 #[cfg(test)]
 mod tests;
@@ -18,7 +20,9 @@ mod writer;
 
 pub use reader::read_file;
 pub use reason::Reason;
+pub use stage::Stage;
 pub use stream::Stream;
+pub use table_reader::{Shape, TableReader};
 use std::alloc::{AllocError, AllocFailed};
 use thiserror::Error;
 use vm_field::Fe;
