@@ -8,3 +8,5 @@ pub mod Pieces
 pub mod Draws
 pub mod Drawn
 pub mod Advancing
+pub mod Putting
+pub mod Closing

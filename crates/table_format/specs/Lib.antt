@@ -6,6 +6,7 @@ pub mod Stream
 pub mod Items
 pub mod Reader
 pub mod ReadsItems
+pub mod Writing
 pub mod File
 pub mod Reading
 pub mod Laws

@@ -13,6 +13,7 @@ mod source;
 mod stage;
 mod stream;
 mod table_reader;
+mod table_writer;
 mod take;
 #[cfg(test)]
 mod tests;
@@ -23,6 +24,7 @@ pub use reason::Reason;
 pub use stage::Stage;
 pub use stream::Stream;
 pub use table_reader::{Shape, TableReader};
+pub use table_writer::TableWriter;
 use std::alloc::{AllocError, AllocFailed};
 use thiserror::Error;
 use vm_field::Fe;

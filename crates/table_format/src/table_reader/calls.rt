@@ -82,6 +82,13 @@ impl TableReader {
         &self.row
     }
 
+    /// How many Segment items were given.
+    pub fn segments(&self) -> u32
+        ensures { result ≡ self.now.segments }
+    {
+        self.segments
+    }
+
     /// The place in the file behind the items given so far.
     pub fn offset(&self) -> u64
         ensures { result ≡ self.now.stream.at }
@@ -93,7 +100,8 @@ impl TableReader {
     pub fn next<H: Host>(&mut self, host: &mut H) -> Result<Item, Stop<Reason>>
         requires open { ((H.state host.old).input Second).is_open ≡ true }
         requires few { self.old.segments ≤ 4096 }
-        ensures { Advances self.old self.new (H.state host.old) (H.state host.new) result }
+        ensures advances { Advances self.old self.new (H.state host.old) (H.state host.new) result }
+        ensures stays { ((H.state host.new).input Second).is_open ≡ true }
     {
         if let Some(error) = self.error {
             return Err(error);
@@ -109,7 +117,8 @@ impl TableReader {
     /// Whether no byte follows the items given so far. It gives no item.
     pub fn at_end<H: Host>(&mut self, host: &mut H) -> Result<bool, Stop<Reason>>
         requires open { ((H.state host.old).input Second).is_open ≡ true }
-        ensures { TellsEndOnce self.old self.new (H.state host.old) (H.state host.new) result }
+        ensures tells { TellsEndOnce self.old self.new (H.state host.old) (H.state host.new) result }
+        ensures stays { ((H.state host.new).input Second).is_open ≡ true }
     {
         if let Some(error) = self.error {
             return Err(error);
