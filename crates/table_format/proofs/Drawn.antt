@@ -1,10 +1,13 @@
 -- What calls that read one item each do one after another: what was read, and where and why reading stopped.
-use Rattle.std.proofs.Common.{◌≡◌, ℕ, ◌+◌, ◌<◌, Bool, true, false, List, [], ◌∷◌, ◌++◌, Option, Some, None, Result, Ok, Err, sym, subst}
+use Rattle.std.proofs.Common.{◌≡◌, ℕ, ◌+◌, ◌<◌, length, Bool, true, false, List, [], ◌∷◌, ◌++◌, Option, Some, None, Result, Ok, Err, sym, subst, refl, ap}
 use Rattle.std.specs.Prelude.{IsErrAnd}
 use Rattle.std.proofs.lemmas.Result.{err_from_is_err_and}
 use Rattle.vm_host.specs.declared.Slot.TheVariants.{Second}
 use Rattle.vm_host.specs.State.{HostState}
 use Rattle.vm_host.specs.Calls.{Rose}
+use Rattle.vm_host.specs.ReadUpTo.{Took}
+use Rattle.vm_host.proofs.Reading.{took_both, took_no_more}
+use Rattle.std.proofs.lemmas.List.{append-nil}
 use Rattle.readings.specs.Readings.{Reading, raw, seen, both, unless, only, chain}
 use Rattle.readings.specs.declared.Stop.{Stop}
 use Rattle.readings.specs.declared.Stop.TheVariants.{Refused, Fault, OutOfMemory}
@@ -12,8 +15,8 @@ use Rattle.readings.specs.Told.{Gave, Stops, IfRefused, IfFault, Is}
 use Rattle.readings.proofs.Gives.{state_after, gave_seen, stops_seen, gave_unless, stops_unless, refused, gave_only, stops_only, not_only, stops_first, gave_both, stops_then, none_chained, more_chained, stops_chained}
 use Rattle.table_format.specs.declared.reason.Reason.{Reason}
 use Rattle.table_format.specs.declared.reason.Reason.TheVariants.{Cut}
-use Rattle.table_format.specs.Stream.{Held, told_by, Draws, Gives, ReadsBy}
-use Rattle.table_format.proofs.Draws.{draws_none, draws_both, draws_given, gave_raw, fault_later}
+use Rattle.table_format.specs.Stream.{Held, told_by, Draws, Gives, ReadsBy, bare, TakesPiece, Takes}
+use Rattle.table_format.proofs.Draws.{draws_none, draws_both, draws_given, gave_raw, stops_raw, fault_later, never_refused}
 
 -- a value was read
 pub record Drew {V : Type 0} (r : Reading Reason V) (a b : Held) (s t : HostState) (v : V) : Type 0 where
@@ -120,3 +123,40 @@ module _ {S V : Type 0} (r : S → Reading Reason V) (next : S → V → S) (x :
     fault = fault_later s.faults t.faults u.faults e h.draws.took.later k.fault;
     refused = so_refused e (Stops (r (state_after next x vs)) (told_by b t)) (Stops (chain r next n x) (told_by a s)) (λ reason. stops_chained r next x i n lt (told_by a s) (told_by b t) vs reason h.gave) k.refused;
   }
+
+-- ---- bytes that are taken and not held
+
+abbrev pub took_draws : {s t : HostState} {bytes : List ℕ} (at : ℕ) → Took Second s t bytes → Draws (bare at) (bare (at + length bytes)) s t
+took_draws {bytes = bytes} at h = record { taken = bytes; given = bytes; took = h; parts = sym (append-nil bytes); place = refl }
+
+pub takes_stops : {s t u : HostState} {bytes into piece : List ℕ} (at count : ℕ) (e : Stop Reason) (result : Result (Unit {0}) (Stop Reason)) → IsErrAnd result (λ y. y ≡ e) → Took Second s t bytes → TakesPiece piece t u (Err e) → Takes at count into s u result
+takes_stops {s} {t} {u} {bytes} at count e result is h p =
+    let k = err_from_is_err_and result is in
+    let took = took_both Second s t u bytes [] h p.took in
+    rw (k.1, k.2) (record {
+      end = at + length (bytes ++ []);
+      reads = halts_answer (record { draws = took_draws at took; fault = fault_later s.faults t.faults u.faults e h.later p.fault; refused = never_refused e (Stops (raw Cut count) (told_by (bare at) s)) p.refused });
+      whole = tt;
+    })
+
+-- no byte follows
+pub takes_cut : {s t u : HostState} {bytes into piece : List ℕ} {n : ℕ} (at count place : ℕ) → Took Second s t bytes → TakesPiece piece t u (Ok n) → n ≡ 0 → 0 < length piece → length bytes < count → place ≡ at + length bytes
+    → Takes at count into s u (Err (Refused (Cut place)))
+takes_cut {s} {t} {u} {bytes} {into} {piece} {n} at count place h p none room few e =
+    let took = took_no_more Second s t u bytes piece n h p.ok none in
+    let d = took_draws at took in
+    rw e (record {
+      end = at + length bytes;
+      reads = halts_answer (record { draws = d; fault = tt; refused = stops_raw count d refl (p.ok.end none room) few });
+      whole = tt;
+    })
+
+-- all of them were read
+pub takes_all : {s t : HostState} {bytes into : List ℕ} (at count : ℕ) → Took Second s t bytes → bytes ≡ into → length bytes ≡ count → Takes at count into s t (Ok tt)
+takes_all {s} {t} {bytes} {into} at count h same size =
+    let d = took_draws at h in
+    record {
+      end = at + length bytes;
+      reads = drew_answers {v = bytes} tt (record { draws = d; gave = gave_raw count d size }) (sym same);
+      whole = ap (λ (n : ℕ). at + n) size;
+    }

@@ -1,13 +1,15 @@
 -- Bytes that were taken from the host and are not yet given, and what giving some of them does.
-use Rattle.std.specs.Prelude.{◌≡◌, ◌≢◌, ℕ, ◌+◌, ◌↔◌, List, [], ◌++◌, length, Bool, true, false, IsTrue, Result, IfOk, IfErr, IfSome}
+use Rattle.std.specs.Prelude.{◌≡◌, ◌≢◌, ℕ, ◌+◌, ◌↔◌, List, [], ◌++◌, length, Bool, true, false, IsTrue, Result, Ok, IfOk, IfErr, OnOk, IfSome, ◌≤◌}
 use Rattle.vm_host.specs.declared.Slot.TheVariants.{Second}
 use Rattle.vm_host.specs.State.{HostState, after_these}
-use Rattle.vm_host.specs.Calls.{AtEnd, Rose}
+use Rattle.vm_host.specs.Calls.{AtEnd, Rose, Reads as HostReads}
 use Rattle.vm_host.specs.ReadUpTo.{Took}
 use Rattle.readings.specs.declared.Stop.{Stop}
-use Rattle.readings.specs.Readings.{Reading}
-use Rattle.readings.specs.Told.{Told, IfRefused, IfFault, Reads}
+use Rattle.readings.specs.Readings.{Reading, raw}
+use Rattle.readings.specs.Told.{Told, IfRefused, IfFault, Is, Reads}
 use Rattle.table_format.specs.declared.reason.Reason.{Reason}
+use Rattle.table_format.specs.declared.reason.Reason.TheVariants.{Cut}
+use Rattle.table_format.specs.Order.{head}
 
 -- how many bytes were given, and those that are held
 pub record Held : Type 0 where
@@ -57,3 +59,29 @@ pub record TellsEnd (old new : Held) (s t : HostState) (result : Result Bool (St
   pub ended : IfOk result (λ ended. IsTrue ended → (new.ahead ≡ []) × AtEnd (t.input Second).rest)
   pub fault : IfErr result (λ e. IfFault e (Rose s.faults t.faults))
   pub refused : IfErr result (λ e. IfRefused e (λ reason. ⊥))
+
+-- ---- the head alone
+
+-- nothing is held behind so many bytes
+abbrev pub bare : ℕ → Held
+bare at = record { at = at; ahead = [] }
+
+-- a piece was taken, or none
+pub record TakesPiece (into : List ℕ) (s t : HostState) (result : Result ℕ (Stop Reason)) : Type 0 where
+  pub ok : IfOk result (λ count. HostReads Second s t (Ok count) into)
+  pub took : IfErr result (λ e. Took Second s t [])
+  pub fault : IfErr result (λ e. IfFault e (Rose s.faults t.faults))
+  pub refused : IfErr result (λ e. IfRefused e (λ reason. ⊥))
+
+-- so many bytes were read, and no more were taken
+pub record Takes (at count : ℕ) (into : List ℕ) (s t : HostState) (result : Result (Unit {0}) (Stop Reason)) : Type 0 where
+  pub end : ℕ
+  pub reads : ReadsBy (raw Cut count) (λ bytes unit. into ≡ bytes) (bare at) (bare end) s t result
+  pub whole : OnOk result (end ≡ at + count)
+
+-- the head was read, and just its bytes were taken
+pub record ReadsHead (greatest : ℕ) (s t : HostState) (result : Result ℕ (Stop Reason)) : Type 0 where
+  pub end : ℕ
+  pub reads : ReadsBy (head greatest) Is (bare 0) (bare end) s t result
+  pub whole : OnOk result (end ≡ 12)
+  pub known : IfOk result (λ version. (1 ≤ version) × (version ≤ greatest))

@@ -5,6 +5,7 @@ ghost use Rattle.std.specs.Prelude.{◌≡◌};
 ghost use Rattle.table_format.specs.declared.TableError.TheVariants.{Host};
 ghost use Rattle.vm_host.specs.declared.HostError.TheVariants.{OutOfMemory};
 
+mod head;
 pub mod item;
 pub mod laws;
 mod reader;
@@ -19,6 +20,7 @@ mod take;
 mod tests;
 mod writer;
 
+pub use head::read_head;
 pub use reader::read_file;
 pub use reason::Reason;
 pub use stage::Stage;

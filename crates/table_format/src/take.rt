@@ -20,13 +20,13 @@ use vm_trace::{CountEntry, Digest, Touched};
 /// The form's name.
 pub(crate) const MAGIC: [u8; 8] = *b"RVTABLES";
 
-fn is_magic(name: [u8; 8]) -> bool
+pub(crate) fn is_magic(name: [u8; 8]) -> bool
     ensures { result ≡ same_bytes name magic }
 {
     name == MAGIC
 }
 
-fn is_version(greatest: u32, version: u32) -> bool
+pub(crate) fn is_version(greatest: u32, version: u32) -> bool
     ensures { result ≡ is_version greatest version }
 {
     0 < version && version <= greatest
