@@ -63,9 +63,9 @@ same_power j k le lt =
     elim (cases_lt j k) [
       | inl less ↦ let next : suc j ≤ k = omega arith in let more : 2 ^ suc j ≤ 2 ^ k = pow_mono next in absurd (omega arith)
       | inr most ↦ elim (cases_lt k j) [
-          | inl less ↦ let next : suc k ≤ j = omega arith in let more : 2 ^ suc k ≤ 2 ^ j = pow_mono next in absurd (omega (arith, twice k, pow_pos k))
-          | inr least ↦ omega arith
-        ]
+        | inl less ↦ let next : suc k ≤ j = omega arith in let more : 2 ^ suc k ≤ 2 ^ j = pow_mono next in absurd (omega (arith, twice k, pow_pos k))
+        | inr least ↦ omega arith
+      ]
     ]
 
 -- a code is the number of digits of its height

@@ -121,7 +121,11 @@ impl Stream {
     }
 
     /// Fills the buffer with the next bytes.
-    pub(crate) fn fill<H: Host>(&mut self, host: &mut H, into: &mut [u8]) -> Result<(), Stop<Reason>>
+    pub(crate) fn fill<H: Host>(
+        &mut self,
+        host: &mut H,
+        into: &mut [u8],
+    ) -> Result<(), Stop<Reason>>
         requires open { ((H.state host.old).input Second).is_open ≡ true }
         ensures { ReadsBy (raw Cut (length into.old)) (λ bytes unit. into.new ≡ bytes) self.old self.new (H.state host.old) (H.state host.new) result }
     {

@@ -6,7 +6,10 @@ ghost use Rattle.table_format.specs.ReadsItems.{form_of, spot_of, IsNew, error_o
 ghost use Rattle.table_format.specs.declared.stage.Stage.{Stage};
 ghost use Rattle.table_format.specs.declared.stage.Stage.TheVariants.{Head, Marker, Segment, Done};
 
-use super::stages::{behind_heights, behind_mark, behind_row, greatest_code, height_of, is_done, list_rows, siblings_left};
+use super::stages::{
+    behind_heights, behind_mark, behind_row, greatest_code, height_of, is_done, list_rows,
+    siblings_left,
+};
 use super::{Shape, TableReader};
 use crate::item::{Bounds, Item};
 use crate::stage::Stage;
@@ -205,14 +208,21 @@ impl TableReader {
         ensures { StepsBy (height_step (form_of self.old) (spot_of self.old) table) self.old self.new (H.state host.old) (H.state host.new) result }
     {
         let segment = self.segments.saturating_sub(1);
-        let code = self.stream.height_code(host, greatest_code(self.version), segment, table)?;
+        let code = self
+            .stream
+            .height_code(host, greatest_code(self.version), segment, table)?;
         let height = height_of(code);
         self.heights.push(height)?;
         self.stage = behind_heights(self.shape.widths.len(), &self.heights);
         Ok(Item::Height { table, height })
     }
 
-    fn next_row<H: Host>(&mut self, host: &mut H, table: u32, left: u32) -> Result<Item, Stop<Reason>>
+    fn next_row<H: Host>(
+        &mut self,
+        host: &mut H,
+        table: u32,
+        left: u32,
+    ) -> Result<Item, Stop<Reason>>
         requires open { ((H.state host.old).input Second).is_open ≡ true }
         requires known { (table < length self.old.heights.items) × (length self.old.heights.items ≤ length self.old.shape.widths.items) }
         ensures { StepsBy (row_step (form_of self.old) (spot_of self.old) table left) self.old self.new (H.state host.old) (H.state host.new) result }
@@ -251,7 +261,12 @@ impl TableReader {
     }
 
     // Entries of the program's list, and what stands behind them.
-    fn program<H: Host>(&mut self, host: &mut H, left: u32, least: u32) -> Result<Item, Stop<Reason>>
+    fn program<H: Host>(
+        &mut self,
+        host: &mut H,
+        left: u32,
+        least: u32,
+    ) -> Result<Item, Stop<Reason>>
         requires open { ((H.state host.old).input Second).is_open ≡ true }
         ensures { StepsBy (program_step (form_of self.old) (spot_of self.old) left least) self.old self.new (H.state host.old) (H.state host.new) result }
     {
@@ -287,7 +302,12 @@ impl TableReader {
     }
 
     // Entries of the list of SHA's constants, and what stands behind them.
-    fn constants<H: Host>(&mut self, host: &mut H, left: u32, least: u32) -> Result<Item, Stop<Reason>>
+    fn constants<H: Host>(
+        &mut self,
+        host: &mut H,
+        left: u32,
+        least: u32,
+    ) -> Result<Item, Stop<Reason>>
         requires open { ((H.state host.old).input Second).is_open ≡ true }
         ensures { StepsBy (constants_step (form_of self.old) (spot_of self.old) left least) self.old self.new (H.state host.old) (H.state host.new) result }
     {

@@ -41,7 +41,11 @@ pub(super) fn behind_mark(more: bool) -> Stage
 pub(super) fn siblings_left(left: u32) -> Stage
     ensures { result ≡ siblings_left left }
 {
-    if left > 0 { Stage::Sibling { left } } else { Stage::Marker }
+    if left > 0 {
+        Stage::Sibling { left }
+    } else {
+        Stage::Marker
+    }
 }
 
 // The first row from this table on, or what stands behind the rows.

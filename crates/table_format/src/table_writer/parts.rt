@@ -164,11 +164,7 @@ pub(super) fn put_counts<H: Host>(
     put_list(host, waiting, tables, CountList::ShaConst)
 }
 
-fn put_page<H: Host>(
-    host: &mut H,
-    waiting: &mut Vec<u8>,
-    page: &Touched,
-) -> Result<(), HostError>
+fn put_page<H: Host>(host: &mut H, waiting: &mut Vec<u8>, page: &Touched) -> Result<(), HostError>
     requires open { (H.state host.old).output.creating ≡ true }
     ensures { Puts (page_text page.now) waiting.old.items waiting.new.items (H.state host.old) (H.state host.new) result }
 {

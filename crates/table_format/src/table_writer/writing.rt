@@ -5,7 +5,9 @@ ghost use Rattle.table_format.specs.Texts.{head_text, piece_text};
 ghost use Rattle.table_format.specs.Writing.{Puts, Wrote, Appends, Begins, AreCountable, IsSegmentOf, error_in, made_text, end_text};
 
 use super::TableWriter;
-use super::parts::{put_bounds, put_codes, put_counts, put_end, put_pages, put_siblings, put_tables};
+use super::parts::{
+    put_bounds, put_codes, put_counts, put_end, put_pages, put_siblings, put_tables,
+};
 use super::put::{PIECE, flush, put, put_flag, put_number};
 use crate::item::{Claim, Connector};
 use crate::take::MAGIC;
@@ -13,11 +15,7 @@ use std::alloc::Global;
 use vm_host::{Host, HostError};
 use vm_trace::{Digest, Tables, Touched};
 
-fn put_head<H: Host>(
-    host: &mut H,
-    waiting: &mut Vec<u8>,
-    version: u32,
-) -> Result<(), HostError>
+fn put_head<H: Host>(host: &mut H, waiting: &mut Vec<u8>, version: u32) -> Result<(), HostError>
     requires open { (H.state host.old).output.creating ≡ true }
     ensures { Puts (head_text version) waiting.old.items waiting.new.items (H.state host.old) (H.state host.new) result }
 {
@@ -25,11 +23,7 @@ fn put_head<H: Host>(
     put_number(host, waiting, version)
 }
 
-fn write_head<H: Host>(
-    host: &mut H,
-    waiting: &mut Vec<u8>,
-    version: u32,
-) -> Result<(), HostError>
+fn write_head<H: Host>(host: &mut H, waiting: &mut Vec<u8>, version: u32) -> Result<(), HostError>
     requires open { (H.state host.old).output.creating ≡ true }
     requires none { waiting.old.items ≡ [] }
     ensures wrote { Wrote (head_text version) (H.state host.old) (H.state host.new) result }
@@ -82,16 +76,14 @@ fn write_segment<H: Host>(
     ensures wrote { Wrote (made_text connector.now start.now end.now tables.now pages.now siblings.now) (H.state host.old) (H.state host.new) result }
     ensures creating { (H.state host.new).output.creating ≡ true }
 {
-    put_segment(host, waiting, connector, start, end, tables, pages, siblings)?;
+    put_segment(
+        host, waiting, connector, start, end, tables, pages, siblings,
+    )?;
     flush(host, waiting)
 }
 
 // Writes what stands behind the segments, and closes the output.
-fn write_end<H: Host>(
-    host: &mut H,
-    waiting: &mut Vec<u8>,
-    claim: &Claim,
-) -> Result<(), HostError>
+fn write_end<H: Host>(host: &mut H, waiting: &mut Vec<u8>, claim: &Claim) -> Result<(), HostError>
     requires open { (H.state host.old).output.creating ≡ true }
     requires none { waiting.old.items ≡ [] }
     ensures wrote { Wrote (end_text claim.now) (H.state host.old) (H.state host.new) result }
@@ -113,11 +105,7 @@ fn error_in(of: &Result<(), HostError>) -> Option<HostError>
 
 impl TableWriter {
     /// Starts the named output with the head of version 1.
-    pub fn begin<H: Host>(
-        alloc: Global,
-        host: &mut H,
-        name: &str,
-    ) -> Result<TableWriter, HostError>
+    pub fn begin<H: Host>(alloc: Global, host: &mut H, name: &str) -> Result<TableWriter, HostError>
         ensures { Begins 1 name.now (H.state host.old) (H.state host.new) result }
     {
         TableWriter::begin_as(alloc, 1, host, name)
@@ -165,7 +153,16 @@ impl TableWriter {
             return Err(error);
         }
         self.waiting.clear();
-        let result = write_segment(host, &mut self.waiting, connector, start, end, tables, pages, siblings);
+        let result = write_segment(
+            host,
+            &mut self.waiting,
+            connector,
+            start,
+            end,
+            tables,
+            pages,
+            siblings,
+        );
         self.error = error_in(&result);
         result
     }

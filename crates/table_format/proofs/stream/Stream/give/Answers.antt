@@ -12,7 +12,7 @@ returns-clause-given c =
     let at : i.start + i.at ≡ c.args.self.now.at = ap (λ (h : Held). h.at) c.self.view_is in
     let k : (i.at + n) - i.at ≡ n = omega arith in
     let copied : c.copy_from_slice.new.self ≡ take n (drop i.at i.piece.items) =
-        c.copy_from_slice.ensures.after ∙ ap (λ m. take m (drop i.at c.deref.result.now)) k ∙ ap (λ (xs : List ℕ). take n (drop i.at xs)) c.deref.ensures.value in
+    c.copy_from_slice.ensures.after ∙ ap (λ m. take m (drop i.at c.deref.result.now)) k ∙ ap (λ (xs : List ℕ). take n (drop i.at xs)) c.deref.ensures.value in
     let rest = drop n c.args.into.now in
     record {
       parts = sym held ∙ held_parts i.piece.items c.copy_from_slice.new.self rest i.at i.filled n le c.self.invariant.1 copied;
