@@ -4,3 +4,9 @@ pub mod Entries
 pub mod Whole
 pub mod ExactItems
 pub mod ExactFile
+pub mod Pieces
+pub mod Draws
+pub mod Drawn
+pub mod Advancing
+pub mod Putting
+pub mod Closing

@@ -2,6 +2,11 @@ pub mod Texts
 pub mod Reasons
 pub mod Order
 pub mod Exactly
+pub mod Stream
+pub mod Items
+pub mod Reader
+pub mod ReadsItems
+pub mod Writing
 pub mod File
 pub mod Reading
 pub mod Laws

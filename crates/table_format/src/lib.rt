@@ -5,17 +5,29 @@ ghost use Rattle.std.specs.Prelude.{◌≡◌};
 ghost use Rattle.table_format.specs.declared.TableError.TheVariants.{Host};
 ghost use Rattle.vm_host.specs.declared.HostError.TheVariants.{OutOfMemory};
 
+mod head;
+pub mod item;
 pub mod laws;
 mod reader;
 mod reason;
 mod source;
+mod stage;
+mod stream;
+mod table_reader;
+mod table_writer;
+mod take;
 #[cfg(test)]
 mod tests;
 mod writer;
 
+pub use head::read_head;
 pub use reader::read_file;
 pub use reason::Reason;
+pub use stage::Stage;
 use std::alloc::{AllocError, AllocFailed};
+pub use stream::Stream;
+pub use table_reader::{Shape, TableReader};
+pub use table_writer::TableWriter;
 use thiserror::Error;
 use vm_field::Fe;
 use vm_host::HostError;

@@ -1,0 +1,6 @@
+use Rattle.std.proofs.Common.{refl}
+use Rattle.table_format.specs.Writing.Appends.{again, first}
+use Rattle.table_format.proofs.table_writer.TableWriter.append.Goals as goal
+
+pub returns-in-Some : goal.returns-in-Some
+returns-in-Some g c = again c.in-Some.error c.in-Some.is refl refl refl
