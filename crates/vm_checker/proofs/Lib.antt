@@ -7,3 +7,5 @@ pub mod Balances
 pub mod Holding
 pub mod Judging
 pub mod Nop
+pub mod SegmentTests
+pub mod FileTests

@@ -1,3 +1,5 @@
 pub mod Accepts
 pub mod Verdicts
 pub mod Laws
+pub mod FirstReason
+pub mod Exactly

@@ -36,6 +36,14 @@ pub struct Accepted {
     pub hints: HintBytes,
 }
 
+/// Where a segment is to begin: where the one before it ended.
+#[derive(Clone, Copy, Debug, PartialEq, Eq)]
+pub struct Before {
+    /// The root of the tree of pages.
+    pub root: [u8; 32],
+    pub pc: u32,
+}
+
 /// Why a file was rejected.
 #[derive(Clone, Copy, Debug, PartialEq, Eq)]
 pub enum Reason {
