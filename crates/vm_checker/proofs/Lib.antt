@@ -9,3 +9,6 @@ pub mod Judging
 pub mod Nop
 pub mod SegmentTests
 pub mod FileTests
+pub mod FixedRows
+pub mod HintOrder
+pub mod Tallying

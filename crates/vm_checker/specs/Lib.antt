@@ -3,3 +3,5 @@ pub mod Verdicts
 pub mod Laws
 pub mod FirstReason
 pub mod Exactly
+pub mod Heard
+pub mod Kept

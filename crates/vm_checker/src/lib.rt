@@ -11,8 +11,13 @@ ghost use Rattle.vm_checker.specs.Verdicts.{Checks, verdict_of};
 
 mod accept;
 mod events;
+mod fixed;
 mod hints;
 pub mod laws;
+mod said;
+mod spelled;
+mod tally;
+mod whole;
 
 use accept::accepts;
 use air_core::Chip;
