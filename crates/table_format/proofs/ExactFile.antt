@@ -1,14 +1,12 @@
 -- A segment and a file are read exactly.
-use Rattle.std.proofs.Common.{◌≡◌, ℕ, zero, suc, ◌+◌, ◌^◌, ◌<◌, ◌≤◌, Bool, true, false, ◌&&◌, nat_eq, nat_lt, nat_le, List, [], ◌∷◌, ◌++◌, length, Option, Some, None, refl, sym, ap, subst, ◌∙◌, arith, lit<}
+use Rattle.std.proofs.Common.{◌≡◌, ℕ, zero, suc, ◌+◌, ◌<◌, ◌≤◌, Bool, true, false, nat_eq, nat_lt, nat_le, List, [], ◌∷◌, ◌++◌, length, Option, None, refl, sym, ap, subst, arith, lit<}
 use Rattle.std.specs.List.{AllByRecursion, flat_map}
 use Rattle.std.specs.Cmp.Lexicographic.{same_text}
 use Rattle.std.proofs.lemmas.Bool.{ltb-true, lt-ltb, leb-true, le-leb, eqb-true, and_parts, and_from}
-use Rattle.readings.specs.Exact.{Exact, Each, AreListed, listed_text}
+use Rattle.readings.specs.Exact.{Exact, Each, AreListed}
 use Rattle.readings.proofs.Exacts.{exact_raw, exact_number, exact_seen, exact_both, exact_unless, exact_only, exact_listed, exact_so, no_reason_exactly, one_spelling}
-use Rattle.vm_trace.specs.declared.count.CountEntry.{CountEntry}
 use Rattle.vm_trace.specs.declared.count.TheConstants.{XOR_ROWS, RANGE_ROWS, SHA_ROWS}
-use Rattle.vm_trace.specs.declared.page.Touched.{Touched}
-use Rattle.vm_trace.specs.Canonical.{Shape, IsNumber, IsElement, IsDigest, IsTable, AreTables, IsCountList, IsCanonicalSegment, IsCanonicalClaim, IsCanonical, height_of}
+use Rattle.vm_trace.specs.Canonical.{Shape, IsNumber, IsElement, IsDigest, AreTables, IsCountList, IsCanonicalSegment, IsCanonicalClaim}
 use Rattle.vm_trace.specs.File.{Segment, File}
 use Rattle.vm_trace.specs.Limits.{Limits, limits_of}
 use Rattle.vm_trace.specs.Pages.{IsLeaf}
@@ -16,9 +14,9 @@ use Rattle.table_format.specs.declared.reason.Reason.{Reason}
 use Rattle.table_format.specs.declared.reason.Reason.TheVariants as reason
 use Rattle.table_format.specs.Order
 use Rattle.table_format.specs.Order.{want, same_bytes, Tests, no_tests, Stand, first_stand, next_stand, stand_after, first_page, next_page, codes, counts, siblings, segment_of, without_siblings, parts, segment, next_place, file_of, body, is_version, file, piece}
-use Rattle.table_format.specs.Texts.{number_text, byte_text, flag_text, raw_text, counted_text, entry_text, rows_text, page_text, segment_text, body_text, head_text, file_text, piece_text, magic}
+use Rattle.table_format.specs.Texts.{number_text, byte_text, flag_text, raw_text, counted_text, segment_text, body_text, head_text, file_text, piece_text, magic}
 use Rattle.table_format.specs.Exactly.{RowsPass, Passes, AllPass, PassesFile, IsPassed, NoReasonExactly, NoReasonInAPiece, OneSpelling}
-use Rattle.table_format.proofs.ExactItems.{want_so, so_want, are_same, all_of_each, each_of_all, exact_times, exact_list, exact_byte, exact_flag, exact_element, exact_digest, exact_leaf, exact_code, IsRead, AreRead, exact_tables, exact_entries, ArePagesRead, exact_pages}
+use Rattle.table_format.proofs.ExactItems.{want_so, so_want, all_of_each, each_of_all, exact_times, exact_list, exact_byte, exact_flag, exact_element, exact_digest, exact_leaf, exact_code, AreRead, exact_tables, exact_entries, ArePagesRead, exact_pages}
 
 -- ---- the parts of a segment
 

@@ -1,9 +1,8 @@
 -- Each item is read exactly.
-use Rattle.std.proofs.Common.{◌≡◌, ℕ, zero, suc, ◌+◌, ◌^◌, ◌<◌, ◌≤◌, Bool, true, false, cond, ◌&&◌, nat_eq, nat_lt, nat_le, List, [], ◌∷◌, ◌++◌, length, get_or, Option, Some, None, refl, sym, ap, subst, ◌∙◌, arith, lit<}
+use Rattle.std.proofs.Common.{◌≡◌, ℕ, zero, suc, ◌+◌, ◌<◌, ◌≤◌, Bool, true, false, ◌&&◌, nat_eq, nat_lt, nat_le, List, [], ◌∷◌, ◌++◌, length, get_or, None, refl, sym, ap, subst, arith, lit<}
 use Rattle.std.specs.List.{AllByRecursion, flat_map}
-use Rattle.std.specs.Cmp.Lexicographic.{pointwise}
-use Rattle.std.proofs.lemmas.Bool.{ltb-true, lt-ltb, leb-true, le-leb, eqb-true, eq-eqb, and_parts, and_from}
-use Rattle.readings.specs.Readings.{Reading, gives, raw, seen, both, unless, only, chain, number}
+use Rattle.std.proofs.lemmas.Bool.{ltb-true, lt-ltb, leb-true, le-leb, eq-eqb, and_parts, and_from}
+use Rattle.readings.specs.Readings.{Reading, gives, raw, chain}
 use Rattle.readings.specs.Exact.{Exact, Each, IsBytes as AreBytes}
 use Rattle.readings.proofs.Exacts.{exact_gives, exact_raw, exact_number, exact_seen, exact_both, exact_unless, exact_only, exact_chain, exact_so}
 use Rattle.vm_field.specs.Field.{modulus}
@@ -12,7 +11,7 @@ use Rattle.vm_trace.specs.declared.count.CountEntry.{CountEntry}
 use Rattle.vm_trace.specs.declared.page.Touched.{Touched}
 use Rattle.vm_trace.specs.Canonical.{IsNumber, IsElement, IsDigest, HasWidth, IsEntry, AreEntries, IsCountList, IsCanonicalPage, height_of}
 use Rattle.vm_trace.specs.Limits.{Limits}
-use Rattle.vm_trace.specs.Pages.{IsLeaf, IsWhole}
+use Rattle.vm_trace.specs.Pages.{IsLeaf}
 use Rattle.table_format.specs.declared.reason.Reason.{Reason}
 use Rattle.table_format.specs.declared.reason.Reason.TheVariants as reason
 use Rattle.table_format.specs.Order

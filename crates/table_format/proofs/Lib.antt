@@ -4,3 +4,6 @@ pub mod Entries
 pub mod Whole
 pub mod ExactItems
 pub mod ExactFile
+pub mod Pieces
+pub mod Draws
+pub mod Drawn

@@ -2,6 +2,8 @@ pub mod Texts
 pub mod Reasons
 pub mod Order
 pub mod Exactly
+pub mod Stream
+pub mod Items
 pub mod File
 pub mod Reading
 pub mod Laws

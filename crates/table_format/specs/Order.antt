@@ -1,6 +1,6 @@
 -- A file's bytes in the order in which they are read: which item stands where, and the tests that are made at each.
 -- The form's own tests are written in the items. Those of a checker, which asks more, are a parameter.
-use Rattle.std.specs.Prelude.{ℕ, zero, suc, ◌+◌, ◌^◌, Bool, true, false, ◌&&◌, nat_eq, nat_lt, nat_le, List, [], ◌∷◌, length, Option, Some, None, if◌then◌else◌}
+use Rattle.std.specs.Prelude.{ℕ, ◌+◌, Bool, true, false, ◌&&◌, nat_eq, nat_lt, nat_le, List, [], ◌∷◌, length, Option, Some, None}
 use Rattle.std.proofs.Common.{get_or}
 use Rattle.std.specs.Cmp.Lexicographic.{pointwise}
 use Rattle.readings.specs.Readings.{Reading, gives, raw, seen, both, unless, only, chain, listed, number}
@@ -111,16 +111,27 @@ list told r next x = seen (λ p. p.1) (both told (λ n. chain r next n x))
 abbrev pub next_place : {V : Type 0} → ℕ → V → ℕ
 next_place n v = n + 1
 
+-- so many elements
+abbrev pub elements : ℕ → Reading Reason (List ℕ)
+elements count = chain (λ i. element) next_place count 0
+
+abbrev pub digests : ℕ → Reading Reason (List (List ℕ))
+digests count = chain (λ i. digest) next_place count 0
+
 -- ---- a segment
 
+-- the code of a table's height, up to the greatest
+abbrev pub height_code : ℕ → ℕ → ℕ → Reading Reason ℕ
+height_code greatest segment table = unless (λ c. want (nat_le c greatest) (reason.Height segment table)) byte
+
 abbrev pub code : Limits → Stand → ℕ → Reading Reason ℕ
-code limits at table = unless (λ c. want (nat_le c limits.greatest_code) (reason.Height at.number table)) byte
+code limits at table = height_code limits.greatest_code at.number table
 
 abbrev pub codes : Limits → Tests → Stand → ℕ → Reading Reason (List ℕ)
 codes limits t at tables = unless (t.heights at) (chain (code limits at) next_place tables 0)
 
 abbrev pub row : Tests → Stand → ℕ → ℕ → ℕ → Reading Reason (List ℕ)
-row t at table width place = unless (t.row at table place) (chain (λ i. element) next_place width 0)
+row t at table width place = unless (t.row at table place) (elements width)
 
 abbrev pub rows : Tests → Stand → ℕ → ℕ → ℕ → Reading Reason (List (List ℕ))
 rows t at table width height = chain (row t at table width) next_place height 0
@@ -149,8 +160,11 @@ entries end = list (number reason.Cut) (entry end) next_least 0
 abbrev pub touched_of : ℕ × (List ℕ × (List ℕ × List ℕ)) → Touched
 touched_of p = record { label = p.0; old = p.1.0; new = p.1.1.0; times = p.1.1.1 }
 
+abbrev pub touched : Reading Reason Touched
+touched = seen touched_of (both (number reason.Cut) (λ a. both leaf (λ b. both leaf (λ c. elements 16))))
+
 abbrev pub page : Tests → Stand → PageAt → Reading Reason Touched
-page t at place = unless (t.page at place) (seen touched_of (both (number reason.Cut) (λ a. both leaf (λ b. both leaf (λ c. chain (λ i. element) next_place 16 0)))))
+page t at place = unless (t.page at place) touched
 
 abbrev pub pages : Tests → Stand → Reading Reason (List Touched)
 pages t at = list (number reason.Cut) (page t at) next_page first_page
@@ -209,14 +223,20 @@ segment limits shape t at = unless (t.segment at) (parts limits shape t at)
 
 -- ---- a file
 
-abbrev pub file_of : ℕ → List Segment × (ℕ × (List ℕ × List (List ℕ))) → File
+-- the exit code, the public bytes, and their path
+abbrev pub Claimed : Type 0
+Claimed = ℕ × (List ℕ × List (List ℕ))
+
+abbrev pub file_of : ℕ → List Segment × Claimed → File
 file_of version p = record { version = version; segments = p.0; code = p.1.0; public_bytes = p.1.1.0; path = p.1.1.1 }
+
+abbrev pub claim : Reading Reason Claimed
+claim = both byte (λ c. both leaf (λ p. digests 25))
 
 -- what stands behind the head of this version
 abbrev pub body : ℕ → Shape → Tests → Reading Reason File
 body version shape t = unless (λ f. t.claim (stand_after first_stand f.segments) f) (seen (file_of version)
-    (both (listed reason.TooManySegments t.follows t.closed flag (segment (limits_of version) shape t) next_stand t.most first_stand)
-    (λ ss. both byte (λ c. both leaf (λ p. chain (λ i. digest) next_place 25 0)))))
+    (both (listed reason.TooManySegments t.follows t.closed flag (segment (limits_of version) shape t) next_stand t.most first_stand) (λ ss. claim)))
 
 abbrev pub is_version : ℕ → ℕ → Bool
 is_version greatest version = nat_lt 0 version && nat_le version greatest

@@ -5,16 +5,20 @@ ghost use Rattle.std.specs.Prelude.{◌≡◌};
 ghost use Rattle.table_format.specs.declared.TableError.TheVariants.{Host};
 ghost use Rattle.vm_host.specs.declared.HostError.TheVariants.{OutOfMemory};
 
+pub mod item;
 pub mod laws;
 mod reader;
 mod reason;
 mod source;
+mod stream;
+mod take;
 #[cfg(test)]
 mod tests;
 mod writer;
 
 pub use reader::read_file;
 pub use reason::Reason;
+pub use stream::Stream;
 use std::alloc::{AllocError, AllocFailed};
 use thiserror::Error;
 use vm_field::Fe;
