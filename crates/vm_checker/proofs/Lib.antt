@@ -12,3 +12,8 @@ pub mod FileTests
 pub mod FixedRows
 pub mod HintOrder
 pub mod Tallying
+pub mod Places
+pub mod RowsTaken
+pub mod CountsTaken
+pub mod InsideTaken
+pub mod SegmentRead

@@ -58,7 +58,7 @@ no_reason f (Some a) h = absurd cc
 
 -- ---- rows
 
-row_holds : (xs : List ℕ) → first_from 0 xs ≡ None → AllByRecursion (λ (v : ℕ). v ≡ 0) xs
+pub row_holds : (xs : List ℕ) → first_from 0 xs ≡ None → AllByRecursion (λ (v : ℕ). v ≡ 0) xs
 row_holds xs h = recursion_from_All (λ (v : ℕ). v ≡ 0) xs (first_from-none 0 xs h)
 
 none_broken : (xs : List ℕ) → AllByRecursion (λ (v : ℕ). v ≡ 0) xs → first_from 0 xs ≡ None
@@ -194,11 +194,11 @@ pass_page : (at : Stand) (place : PageAt) (page : Touched) → place.least ≤ p
 pass_page at place page order label =
     both_none _ _ (so_want _ (reason.PageOrder at.number place.number) (le-leb place.least page.label order)) (so_want _ (reason.PageSpace at.number place.number) (is_label page.label label))
 
-labels : (at : Stand) (place : PageAt) (pages : List Touched) → PagesPass at place pages → AllByRecursion (λ (page : Touched). IsMachineLabel page.label) pages
+pub labels : (at : Stand) (place : PageAt) (pages : List Touched) → PagesPass at place pages → AllByRecursion (λ (page : Touched). IsMachineLabel page.label) pages
 labels at place [] h = tt
 labels at place (p ∷ ps) h = ((page_passes at place p h.0).label, labels at (next_page place p) ps h.1)
 
-rising : (at : Stand) (place : PageAt) (pages : List Touched) → PagesPass at place pages → IsStrictlyIncreasing (map label_of pages)
+pub rising : (at : Stand) (place : PageAt) (pages : List Touched) → PagesPass at place pages → IsStrictlyIncreasing (map label_of pages)
 rising at place [] h k low = absurd (omega (arith, low))
 rising at place (p ∷ []) h k low = absurd (omega (arith, low))
 rising at place (p ∷ q ∷ ps) h zero low = let o = (page_passes at (next_page place p) q h.1.0).order in omega (arith, o)

@@ -5,3 +5,6 @@ pub mod FirstReason
 pub mod Exactly
 pub mod Heard
 pub mod Kept
+pub mod Items
+pub mod Inside
+pub mod Facts

@@ -10,12 +10,17 @@ ghost use Rattle.vm_checker.specs.Accepts.{IsPathTable};
 ghost use Rattle.vm_checker.specs.Verdicts.{Checks, verdict_of};
 
 mod accept;
+mod counts;
 mod events;
 mod fixed;
+mod heights;
 mod hints;
 pub mod laws;
+mod pages;
 mod said;
+mod segment;
 mod spelled;
+mod tables;
 mod tally;
 mod whole;
 

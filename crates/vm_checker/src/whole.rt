@@ -3,10 +3,11 @@ ghost use Rattle.std.specs.Prelude.{◌≡◌, ◌<◌, ◌^◌, List, length, I
 ghost use Rattle.std.specs.List.{AllByRecursion};
 ghost use Rattle.std.specs.List.Sorted.{IsStrictlyIncreasing};
 ghost use Rattle.air_core.specs.declared.event.Event.{Event as AnEvent};
-ghost use Rattle.page_tree.specs.Opening.{AreLabels};
+ghost use Rattle.page_tree.specs.Opening.{AreLabels, siblings_needed};
 ghost use Rattle.page_tree.specs.Parts.{labels_of};
 ghost use Rattle.vm_checker.specs.FirstReason.{balance_test, end_root_test, end_test, exit_code, has_pc, has_root, is_machine_label, number_test, page_test, slots_of, slots_test, start_pc_test, start_root_test};
 ghost use Rattle.vm_checker.specs.Heard.{Hears};
+ghost use Rattle.vm_checker.specs.Items.{bounds_test};
 
 use crate::Before;
 use crate::said::Said;
@@ -14,6 +15,7 @@ use air_core::{Extension, OutOfMemory};
 use page_tree::{Digest, roots_of, sibling_count};
 use std::alloc::Global;
 use table_format::Reason;
+use table_format::item::Bounds;
 use vm_isa::opcode::TERMINATE;
 use vm_trace::{MEMORY_LABEL, PUBLIC_LABEL, REGISTER_LABEL, Touched};
 use vm_transpile::Program;
@@ -124,4 +126,38 @@ fn has_pc(before: Option<Before>, pc: u32) -> bool
         Some(before) => pc == before.pc,
         None => true,
     }
+}
+
+/// Why a segment that was read whole is refused. It is to begin where the one before it ended, if that is known.
+pub(crate) fn whole_reason(
+    program: &Program,
+    before: Option<Before>,
+    segment: u32,
+    bounds: &Bounds,
+    pages: &[Touched],
+    siblings: &[Digest],
+) -> Option<Reason>
+    requires rising { IsStrictlyIncreasing (labels_of pages.now) }
+    requires in_tree { AreLabels (labels_of pages.now) }
+    requires number { length siblings.now ≡ siblings_needed (labels_of pages.now) }
+    requires few { length siblings.now < 2 ^ 32 }
+    ensures { result ≡ bounds_test program.now before segment bounds.now pages.now siblings.now }
+{
+    let Ok(roots) = roots_of(pages, siblings) else {
+        unreachable!()
+    };
+    let connector = &bounds.connector;
+    if !has_root(before, &bounds.start) || bounds.start != roots.0 {
+        return Some(Reason::RootStart { segment });
+    }
+    if bounds.end != roots.1 {
+        return Some(Reason::RootEnd { segment });
+    }
+    if !has_pc(before, connector.pc_start) {
+        return Some(Reason::PcChain { segment });
+    }
+    if connector.ends && exit_code(program, connector.pc_end).is_none() {
+        return Some(Reason::NotTerminate { segment });
+    }
+    None
 }
