@@ -7,3 +7,13 @@ pub mod Balances
 pub mod Holding
 pub mod Judging
 pub mod Nop
+pub mod SegmentTests
+pub mod FileTests
+pub mod FixedRows
+pub mod HintOrder
+pub mod Tallying
+pub mod Places
+pub mod RowsTaken
+pub mod CountsTaken
+pub mod InsideTaken
+pub mod SegmentRead

@@ -1,3 +1,10 @@
 pub mod Accepts
 pub mod Verdicts
 pub mod Laws
+pub mod FirstReason
+pub mod Exactly
+pub mod Heard
+pub mod Kept
+pub mod Items
+pub mod Inside
+pub mod Facts

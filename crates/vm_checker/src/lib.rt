@@ -10,9 +10,19 @@ ghost use Rattle.vm_checker.specs.Accepts.{IsPathTable};
 ghost use Rattle.vm_checker.specs.Verdicts.{Checks, verdict_of};
 
 mod accept;
+mod counts;
 mod events;
+mod fixed;
+mod heights;
 mod hints;
 pub mod laws;
+mod pages;
+mod said;
+mod segment;
+mod spelled;
+mod tables;
+mod tally;
+mod whole;
 
 use accept::accepts;
 use air_core::Chip;
@@ -34,6 +44,14 @@ pub struct Accepted {
     pub segments: u32,
     /// The hint bytes that the run takes, in order.
     pub hints: HintBytes,
+}
+
+/// Where a segment is to begin: where the one before it ended.
+#[derive(Clone, Copy, Debug, PartialEq, Eq)]
+pub struct Before {
+    /// The root of the tree of pages.
+    pub root: [u8; 32],
+    pub pc: u32,
 }
 
 /// Why a file was rejected.
