@@ -1,11 +1,11 @@
 -- Pages by their labels, and what the blocks are after one of them was put.
-use Rattle.std.proofs.Common.{◌≡◌, ◌≢◌, ◌⊎◌, inl, inr, ℕ, zero, suc, ◌+◌, ◌*◌, ◌/◌, ◌%◌, ◌<◌, ◌≤◌, ◌&&◌, Bool, true, false, cond, nat_eq, nat_lt, eqb, List, [], ◌∷◌, ◌++◌, length, map, get_or, set, take, drop, slice_index, replicate, Option, Some, None, refl, sym, ap, ◌∙◌, subst, ⊎_elim, arith}
+use Rattle.std.proofs.Common.{◌≡◌, ◌≢◌, inl, inr, ℕ, zero, suc, ◌+◌, ◌/◌, ◌%◌, ◌<◌, ◌≤◌, ◌&&◌, Bool, true, false, cond, nat_eq, nat_lt, List, [], ◌∷◌, ◌++◌, length, map, get_or, set, take, drop, slice_index, replicate, Option, Some, None, refl, sym, ap, ◌∙◌, subst, ⊎_elim, arith}
 use Rattle.std.specs.Option.{option_map}
 use Rattle.std.specs.Ordering.{is_eq, nat_cmp}
 use Rattle.std.specs.Cmp.{nat_cmp_is}
 use Rattle.std.specs.declared.cmp.Ordering.TheVariants.{Less, Equal, Greater}
 use Rattle.std.proofs.Math.Path.{fun_ext}
-use Rattle.std.proofs.lemmas.Bool.{cases_Bool, cases_eq, cases_lt, and_parts, ltb-true, eqb-true, eq-eqb, ne_eqb, cond-true, cond-false, both_ways}
+use Rattle.std.proofs.lemmas.Bool.{cases_eq, cases_lt, and_parts, ltb-true, eqb-true, eq-eqb, ne_eqb, both_ways}
 use Rattle.std.proofs.lemmas.List.{take_all, drop_all, append-nil}
 use Rattle.std.proofs.lemmas.List.Elements.{All-nil, All-cons, All-append, All-set, All-map}
 use Rattle.elf_image.specs.Loaded.{Loaded}
@@ -15,7 +15,7 @@ use Rattle.vm_trace.specs.declared.page.Touched.{Touched}
 use Rattle.vm_trace.specs.Pages.{block_word, page_space, block_pointer, IsMachineLabel}
 use Rattle.vm_transpile.specs.Start.{start_blocks}
 use Rattle.vm_executor.specs.Machine.{with_time}
-use Rattle.vm_executor.specs.Pages.{Times, IsPut, begun_page, never}
+use Rattle.vm_executor.specs.Pages.{IsPut, begun_page, never}
 use Rattle.vm_executor.specs.Memory.{Kept, place_at, page_at, label_of, block_in, word_by, time_by, blocks_by, now_of, began_of, times_of, AreKept, IsIdle, PutBlock, IsFresh, KeepsAll, Begins}
 
 by_test : {P : Type 0} (b : Bool) → (b ≡ true → P) → (b ≡ false → P) → P

@@ -1,18 +1,17 @@
 -- The hints and the row of a step, and what it comes to.
-use Rattle.std.proofs.Common.{◌≡◌, ℕ, zero, suc, ◌+◌, ◌<◌, ◌≤◌, Bool, true, false, nat_eq, List, [], ◌∷◌, length, map, get_or, take, Option, Some, None, Contains, refl, sym, ap, ◌∙◌, subst, arith}
+use Rattle.std.proofs.Common.{◌≡◌, ℕ, ◌+◌, ◌≤◌, Bool, true, false, nat_eq, List, [], ◌∷◌, length, map, get_or, take, Some, None, Contains, refl, sym, ap, ◌∙◌, subst, arith}
 use Rattle.std.specs.List.{AllByRecursion}
-use Rattle.vm_isa.specs.declared.meaning.NextAccess.TheVariants.{Done}
 use Rattle.vm_isa.specs.Blocks.{Blocks, Meets, Terminates, after_accesses}
 use Rattle.vm_isa.specs.Opcodes.{TERMINATE}
 use Rattle.vm_isa.specs.Slots.{slots_of}
 use Rattle.vm_isa.specs.declared.access.TimedAccess.{TimedAccess}
 use Rattle.vm_isa.specs.declared.instr.VmInstr.{VmInstr}
 use Rattle.vm_isa.specs.Hints.{Hints, AreEnough, hints_after, next_hint}
-use Rattle.vm_isa.specs.Means.{Accessed, Meaning, Placed, means_of, next_access_of, placed, placed_at}
+use Rattle.vm_isa.specs.Means.{Accessed, Meaning, Placed, means_of, placed, placed_at}
 use Rattle.vm_isa.specs.Words.{IsWord}
 use Rattle.vm_isa.proofs.GivenLaws.{means_same}
 use Rattle.vm_transpile.specs.Order.{RisesFrom}
-use Rattle.vm_transpile.proofs.Lookups.{IsFound, found, finds}
+use Rattle.vm_transpile.proofs.Lookups.{found, finds}
 use Rattle.vm_executor.specs.Machine.{Machine, Goes, IsStuck}
 use Rattle.vm_executor.specs.Memory.{Kept, now_of, began_of, times_of}
 use Rattle.vm_executor.specs.Pages.{Times}

@@ -1,5 +1,5 @@
 -- The accesses of a step, one after another.
-use Rattle.std.proofs.Common.{◌≡◌, ℕ, zero, suc, ◌+◌, ◌<◌, ◌≤◌, Bool, true, List, [], ◌∷◌, ◌++◌, length, map, get_or, take, drop, Option, Some, None, refl, sym, ap, ◌∙◌, subst, arith, append_assoc, length-append, length-take}
+use Rattle.std.proofs.Common.{◌≡◌, ℕ, zero, suc, ◌+◌, ◌<◌, ◌≤◌, true, List, [], ◌∷◌, ◌++◌, length, map, get_or, take, drop, Some, None, refl, sym, ap, ◌∙◌, subst, arith, length-take}
 use Rattle.std.specs.Prelude.{slice_get}
 use Rattle.std.specs.List.{AllByRecursion}
 use Rattle.std.proofs.lemmas.Bool.Decides.{nat_tests}
@@ -10,14 +10,14 @@ use Rattle.vm_isa.specs.declared.meaning.NextAccess.{NextAccess}
 use Rattle.vm_isa.specs.declared.meaning.NextAccess.TheVariants.{NoMeaning, At, Done}
 use Rattle.vm_isa.specs.Blocks.{Blocks, Meets, after_accesses, is_block, with_block}
 use Rattle.vm_isa.specs.Laws.{FindsItsWord, SlotsRise}
-use Rattle.vm_isa.specs.Means.{Accessed, HasNew, Meaning, means_of, next_access_of, places_of, placed, placed_at, word_at, Placed}
+use Rattle.vm_isa.specs.Means.{Accessed, HasNew, Meaning, means_of, next_access_of, placed, placed_at, word_at, Placed}
 use Rattle.vm_isa.specs.Slots.{slots_of}
 use Rattle.vm_isa.proofs.MeetLaws.{met_words_stand}
 use Rattle.vm_isa.proofs.NextLaws.{done_is_a_meaning, meant, next_is_the_meanings, no_meaning_is_final}
 use Rattle.vm_isa.proofs.SlotRises.{meaning_rises}
 use Rattle.vm_executor.specs.Pages.{Times}
 use Rattle.vm_executor.specs.Machine.{Befores, times_after, with_time}
-use Rattle.vm_executor.specs.Memory.{Kept, now_of, began_of, times_of, PutBlock}
+use Rattle.vm_executor.specs.Memory.{Kept, now_of, times_of, PutBlock}
 use Rattle.vm_executor.specs.Write.{AreMade}
 use Rattle.vm_executor.proofs.MetWords.{old_words}
 use Rattle.vm_executor.proofs.ReadLemmas.{places_long}
@@ -185,8 +185,8 @@ made_next i blocks words given k slot space pointer time word before old mid new
     let fresh : a.new ≡ word = nth_new i words given m other k a word h g has stands in
     let make : ℕ → ℕ → ℕ → List ℕ → List ℕ → Placed = λ t s p o n. record { time = t; space = s; pointer = p; old = o; new = n } in
     let same = ap (λ (n : ℕ). make (time + n) space pointer (get_or words k []) word) (sym is.slot_is) ∙ ap (λ (s : ℕ). make (time + a.slot) s pointer (get_or words k []) word) (sym is.space_is)
-        ∙ ap (λ (p : ℕ). make (time + a.slot) a.space p (get_or words k []) word) (sym is.pointer_is) ∙ ap (λ (o : List ℕ). make (time + a.slot) a.space a.pointer o word) (sym is.old_is)
-        ∙ ap (make (time + a.slot) a.space a.pointer a.old) (sym fresh) in
+    ∙ ap (λ (p : ℕ). make (time + a.slot) a.space p (get_or words k []) word) (sym is.pointer_is) ∙ ap (λ (o : List ℕ). make (time + a.slot) a.space a.pointer o word) (sym is.old_is)
+    ∙ ap (make (time + a.slot) a.space a.pointer a.old) (sym fresh) in
     let before_is = at ∙ ap (λ (s : ℕ). times_of mid s pointer) (sym is.space_is) ∙ ap (times_of mid a.space) (sym is.pointer_is) in
     let puts = subst (λ (s : ℕ). PutBlock mid new s a.pointer a.new (time + a.slot)) (sym is.space_is)
     (subst (λ (p : ℕ). PutBlock mid new space p a.new (time + a.slot)) (sym is.pointer_is)

@@ -1,5 +1,5 @@
 -- Memory as it is kept: pages by their labels, and the start of the run wherever no page is kept.
-use Rattle.std.specs.Prelude.{◌≡◌, ◌≢◌, ℕ, ◌+◌, ◌*◌, ◌/◌, ◌%◌, ◌<◌, List, [], ◌∷◌, All, length, replicate, slice_index, slice_index_or, nat_eq, if◌then◌else◌, Option, Some, None}
+use Rattle.std.specs.Prelude.{◌≡◌, ℕ, ◌+◌, ◌*◌, ◌/◌, ◌%◌, ◌<◌, List, [], ◌∷◌, All, replicate, slice_index, nat_eq, if◌then◌else◌, Option, Some, None}
 use Rattle.std.specs.Option.{option_map}
 use Rattle.elf_image.specs.Loaded.{Loaded}
 use Rattle.vm_isa.specs.Blocks.{Blocks, is_block, with_block}

@@ -1,10 +1,8 @@
 -- The words that a step reads before it writes.
 use Rattle.std.specs.Prelude.{◌≡◌, ℕ, List, Option, Some, None}
-use Rattle.std.specs.List.{AllByRecursion}
 use Rattle.vm_isa.specs.declared.instr.VmInstr.{VmInstr}
 use Rattle.vm_isa.specs.declared.meaning.NextAccess.TheVariants.{Done}
 use Rattle.vm_isa.specs.Blocks.{Blocks, Meets}
-use Rattle.vm_isa.specs.Laws.{FindsItsWord}
 use Rattle.vm_isa.specs.Means.{Meaning, means_of, next_access_of}
 
 -- these are the old words of the one meaning that can be done, or there is none

@@ -68,12 +68,7 @@ impl<'m> Machine<'m> {
     ghost use Rattle.vm_executor.specs.State.{IsStep, machine_of, program_of};
 
     /// The machine where a run begins, and a segment of it.
-    pub fn new(
-        alloc: Global,
-        program: &'m Program,
-        image: &'m Image,
-        hints: Vec<u8>,
-    ) -> Machine<'m>
+    pub fn new(alloc: Global, program: &'m Program, image: &'m Image, hints: Vec<u8>) -> Machine<'m>
         ensures program { program_of result ≡ program.now }
         ensures start { machine_of result ≡ record { pc = image.now.entry; time = 1; hints = hints.items; now = start_blocks image.now; start = start_blocks image.now; times = never } }
     {

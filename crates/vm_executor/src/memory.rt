@@ -5,8 +5,8 @@ ghost use Rattle.vm_trace.specs.Pages.{IsMachineLabel};
 ghost use Rattle.vm_transpile.specs.Start.{start_blocks};
 ghost use Rattle.vm_executor.specs.Memory.{now_of, times_of, label_of, place_at, Begins, IsFresh, KeepsAll, PutBlock};
 
-use crate::page::{begin, put, word_of};
 use crate::OutOfMemory;
+use crate::page::{begin, put, word_of};
 use elf_image::Image;
 use std::alloc::Global;
 use std::collections::BTreeMap;

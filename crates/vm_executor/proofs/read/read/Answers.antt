@@ -1,4 +1,4 @@
-use Rattle.std.proofs.Common.{◌≡◌, ℕ, ◌+◌, length, [], ◌∷◌, sym, ap, ◌∙◌, subst, arith, length-append}
+use Rattle.std.proofs.Common.{ℕ, ◌+◌, length, [], ◌∷◌, sym, ap, ◌∙◌, subst, arith, length-append}
 use Rattle.vm_isa.specs.Means.{next_access_of}
 use Rattle.vm_executor.specs.Memory.{now_of}
 use Rattle.vm_executor.proofs.ReadLemmas.{HasRead, none_read, read_more, read_none, read_off, read_forced, read_meets, at_few}

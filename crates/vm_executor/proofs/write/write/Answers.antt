@@ -1,14 +1,12 @@
 use Rattle.std.proofs.Common.{◌≡◌, ℕ, ◌+◌, ◌<◌, List, length, [], ◌∷◌, refl, sym, ap, ◌∙◌, subst, arith, length-append}
 use Rattle.vm_isa.specs.declared.access.TimedAccess.{TimedAccess}
-use Rattle.vm_isa.specs.declared.meaning.NextAccess.TheVariants.{At}
 use Rattle.std.specs.List.{AllByRecursion}
 use Rattle.air_core.specs.ListLemmas.{all_append}
 use Rattle.vm_isa.specs.Words.{IsWord}
-use Rattle.vm_isa.specs.Means.{Meaning, means_of}
 use Rattle.vm_executor.specs.Memory.{now_of}
 use Rattle.vm_executor.specs.Write.{AreMade}
 use Rattle.vm_executor.proofs.ReadLemmas.{words_few}
-use Rattle.vm_executor.proofs.WriteLemmas.{Reached, reached, no_other, none_made, made_next, made_all}
+use Rattle.vm_executor.proofs.WriteLemmas.{reached, no_other, none_made, made_next, made_all}
 use Rattle.vm_executor.proofs.write.write.Goals as goal
 
 pub loop-number-init : goal.loop-number-init

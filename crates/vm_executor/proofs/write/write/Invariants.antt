@@ -1,4 +1,4 @@
-use Rattle.std.proofs.Common.{◌≡◌, ◌≤◌, ℕ, List, length, take, Some}
+use Rattle.std.proofs.Common.{◌≡◌, length, take, Some}
 use Rattle.std.specs.List.{AllByRecursion}
 use Rattle.vm_isa.specs.Words.{IsWord}
 use Rattle.vm_isa.specs.Means.{Meaning, means_of}

@@ -1,8 +1,8 @@
-use Rattle.std.proofs.Common.{◌≡◌, ℕ, List, [], ap, ◌∙◌}
+use Rattle.std.proofs.Common.{ℕ, List, [], ap, ◌∙◌}
 use Rattle.vm_isa.specs.Blocks.{Blocks}
 use Rattle.vm_transpile.specs.Start.{start_blocks}
 use Rattle.vm_executor.specs.Machine.{Machine}
-use Rattle.vm_executor.specs.Pages.{Times, never}
+use Rattle.vm_executor.specs.Pages.{Times}
 use Rattle.vm_executor.specs.Memory.{Kept, now_of, began_of, times_of}
 use Rattle.vm_executor.proofs.KeepLemmas.{none_kept, never_kept}
 use Rattle.vm_executor.proofs.machine.Machine.new.Goals as goal

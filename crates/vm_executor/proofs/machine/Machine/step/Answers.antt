@@ -1,4 +1,4 @@
-use Rattle.std.proofs.Common.{◌≡◌, Some, refl, sym, ap, ◌∙◌, subst, arith}
+use Rattle.std.proofs.Common.{refl, sym, ◌∙◌, arith}
 use Rattle.vm_executor.specs.State.{machine_of, program_of}
 use Rattle.vm_executor.proofs.StepWords.{stuck_off, stuck_by, ends_by, goes_by}
 use Rattle.vm_executor.proofs.machine.Machine.step.Goals as goal

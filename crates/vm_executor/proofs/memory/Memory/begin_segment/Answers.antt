@@ -1,4 +1,4 @@
-use Rattle.std.proofs.Common.{[], ◌≡◌, ◌++◌, List, get_or, length, map, take, drop, set, sym, ap, ◌∙◌, subst, arith}
+use Rattle.std.proofs.Common.{[], ◌≡◌, ◌++◌, List, get_or, length, map, take, drop, set, sym, ap, ◌∙◌, subst}
 use Rattle.vm_trace.specs.declared.page.Touched.{Touched}
 use Rattle.vm_executor.specs.Pages.{begun_page}
 use Rattle.vm_executor.specs.Memory.{AreKept, Begins, Kept, place_at}

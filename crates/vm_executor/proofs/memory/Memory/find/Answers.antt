@@ -1,5 +1,4 @@
 use Rattle.std.proofs.Common.{[], ◌≡◌, Some, None, sym, ap, ◌∙◌, slice_index, arith}
-use Rattle.vm_isa.proofs.SpaceLaws.{block_low}
 use Rattle.vm_trace.specs.Pages.{block_word}
 use Rattle.vm_trace.specs.declared.page.Touched.{Touched}
 use Rattle.vm_executor.specs.Memory.{Kept, label_of, block_in, place_at, now_of, times_of}

@@ -1,5 +1,4 @@
-use Rattle.std.proofs.Common.{◌≡◌, ℕ, refl}
-use Rattle.std.specs.Map.{lookup}
+use Rattle.std.proofs.Common.{refl}
 use Rattle.vm_executor.specs.Memory.{place_at}
 use Rattle.vm_executor.proofs.KeepLemmas.{AreKept-none}
 use Rattle.vm_executor.proofs.memory.Memory.new.Goals as goal

@@ -1,9 +1,9 @@
-use Rattle.std.proofs.Common.{Bool, Option, nat_cmp, ◌≡◌, ℕ, ◌++◌, [], ◌∷◌, Some, None, List, length, cond, nat_eq, sym, ap, ◌∙◌, subst, refl}
+use Rattle.std.proofs.Common.{Bool, Option, nat_cmp, ◌≡◌, ℕ, Some, None, List, length, cond, nat_eq, sym, ap, ◌∙◌, subst, refl}
 use Rattle.std.specs.BTreeMap.{get}
 use Rattle.std.proofs.lemmas.Bool.{cond-true, eq-eqb}
 use Rattle.vm_trace.specs.declared.page.Touched.{Touched}
 use Rattle.vm_trace.specs.Pages.{IsMachineLabel}
-use Rattle.vm_executor.specs.Memory.{AreKept, Kept, KeepsAll, PutBlock, label_of, page_at, place_at}
+use Rattle.vm_executor.specs.Memory.{AreKept, Kept, KeepsAll, label_of, page_at, place_at}
 use Rattle.vm_executor.proofs.KeepLemmas.{PutPage, machine_label, same_key, AreKept-push, fresh_in, page-push, place-push, unplaced}
 use Rattle.vm_executor.proofs.memory.Memory.own.Goals as goal
 

@@ -1,9 +1,9 @@
-use Rattle.std.proofs.Common.{◌≡◌, ℕ, Some, List, get_or, set, sym, ap, ◌∙◌, subst, refl, arith, [], cond, nat_eq}
+use Rattle.std.proofs.Common.{◌≡◌, ℕ, Some, get_or, set, sym, ap, ◌∙◌, subst, refl, arith, [], cond, nat_eq}
 use Rattle.vm_isa.specs.Blocks.{Blocks, with_block}
 use Rattle.vm_trace.specs.declared.page.Touched.{Touched}
 use Rattle.vm_executor.specs.Machine.{with_time}
 use Rattle.vm_executor.specs.Pages.{Times, IsPut}
-use Rattle.vm_executor.specs.Memory.{Kept, KeepsAll, PutBlock, label_of, block_in, page_at, place_at}
+use Rattle.vm_executor.specs.Memory.{Kept, PutBlock, label_of, block_in, page_at, place_at}
 use Rattle.vm_executor.proofs.KeepLemmas.{PutPage, AreKept-set, placed, place-set, page-set, put_in}
 use Rattle.vm_executor.proofs.memory.Memory.put.Goals as goal
 
