@@ -1,5 +1,5 @@
 -- How the tree at the start is put together: load by load, the last one first.
-use Rattle.std.specs.Prelude.{◌≡◌, ℕ, ◌+◌, ◌-◌, ◌<◌, ◌&&◌, List, ◌∷◌, length, map, slice_index, nat_le, nat_lt, if◌then◌else◌}
+use Rattle.std.specs.Prelude.{◌≡◌, ℕ, ◌+◌, ◌-◌, ◌&&◌, List, ◌∷◌, length, map, slice_index, nat_le, nat_lt, if◌then◌else◌}
 use Rattle.std.specs.List.{range_with_len}
 use Rattle.elf_image.specs.Loaded.{Load}
 use Rattle.page_tree.specs.Tree.{Leaves, IsBelow}

@@ -13,6 +13,7 @@ mod outcome;
 mod state;
 
 use elf_image::Image;
+pub use hints::Hints;
 pub use laws::{run_end_is_one, run_takes_hints};
 pub use outcome::{Cause, RunEnd, Stepped, Trap};
 pub use state::State;

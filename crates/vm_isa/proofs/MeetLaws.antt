@@ -1,5 +1,5 @@
 -- Of two accesses of a meaning to one block the earlier keeps its word, so accesses that find their old
--- words before the step find them one after another.
+-- words before the step find them one after another, and the other way round.
 use Rattle.std.proofs.Common.{◌≡◌, ℕ, ◌+◌, ◌*◌, ◌<◌, ◌&&◌, ◌||◌, Bool, true, false, nat_eq, List, [], ◌∷◌, ◌++◌, Some, refl, sym, ap, ◌∙◌, subst, arith, if◌then◌else◌}
 use Rattle.std.specs.List.{AllByRecursion}
 use Rattle.std.proofs.lemmas.Bool.{eqb-true}
@@ -46,6 +46,27 @@ unfolding Meets KeptBefore
 meets_kept blocks [] kept found = tt
 meets_kept blocks (a ∷ more) kept found =
     (found.0.0, found.0.1, meets_kept (with_block blocks a.space a.pointer a.new) more kept.1 (found_after blocks a more found.0.1 kept.0 found.1))
+
+stood_by : (blocks : Blocks) (a b : Accessed) (x y : Bool) → nat_eq b.space a.space ≡ x → nat_eq b.pointer a.pointer ≡ y → blocks a.space a.pointer ≡ a.old → (if x && y then a.new else blocks b.space b.pointer) ≡ b.old → Undisturbed a b
+    → blocks b.space b.pointer ≡ b.old
+stood_by blocks a b true true e f at here kept =
+    let space : b.space ≡ a.space = eqb-true b.space a.space e in
+    let pointer : b.pointer ≡ a.pointer = eqb-true b.pointer a.pointer f in
+    ap (λ (s : ℕ). blocks s b.pointer) space ∙ ap (blocks a.space) pointer ∙ at ∙ sym (kept space pointer) ∙ here
+stood_by blocks a b true false e f at here kept = here
+stood_by blocks a b false y e f at here kept = here
+
+stood_before : (blocks : Blocks) (a : Accessed) (more : List Accessed) → blocks a.space a.pointer ≡ a.old → AllByRecursion (Undisturbed a) more
+    → AllByRecursion (FindsItsWord (with_block blocks a.space a.pointer a.new)) more → AllByRecursion (FindsItsWord blocks) more
+stood_before blocks a [] at kept found = tt
+stood_before blocks a (b ∷ more) at kept found =
+    ((found.0.0, stood_by blocks a b (nat_eq b.space a.space) (nat_eq b.pointer a.pointer) refl refl at found.0.1 kept.0), stood_before blocks a more at kept.1 found.1)
+
+stand_kept : (blocks : Blocks) (accesses : List Accessed) → KeptBefore accesses → Meets blocks accesses → AllByRecursion (FindsItsWord blocks) accesses
+unfolding Meets KeptBefore
+stand_kept blocks [] kept met = tt
+stand_kept blocks (a ∷ more) kept met =
+    ((met.0, met.1), stood_before blocks a more met.1 kept.0 (stand_kept (with_block blocks a.space a.pointer a.new) more kept.1 met.2))
 
 -- ---- lists of places
 
@@ -196,3 +217,10 @@ standing_words_are_met blocks i olds given m h found =
     let same : m.accesses ≡ (whole i olds given).accesses = ap (λ (x : Meaning). x.accesses) is.is in
     subst (Meets blocks) (sym same)
     (meets_kept blocks (whole i olds given).accesses (kept_accesses (new_at i olds given) (places_of i olds) olds (places_kept i olds given _ _)) (subst (AllByRecursion (FindsItsWord blocks)) same found))
+
+pub met_words_stand : (blocks : Blocks) (i : VmInstr) (olds : List (List ℕ)) (given : List ℕ) (m : Meaning) → means_of i olds given ≡ Some m → Meets blocks m.accesses → AllByRecursion (FindsItsWord blocks) m.accesses
+met_words_stand blocks i olds given m h met =
+    let is = meant i olds given m h in
+    let same : m.accesses ≡ (whole i olds given).accesses = ap (λ (x : Meaning). x.accesses) is.is in
+    subst (AllByRecursion (FindsItsWord blocks)) (sym same)
+    (stand_kept blocks (whole i olds given).accesses (kept_accesses (new_at i olds given) (places_of i olds) olds (places_kept i olds given _ _)) (subst (Meets blocks) same met))

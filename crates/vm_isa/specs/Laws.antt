@@ -75,3 +75,8 @@ FindsItsWord blocks a = (is_block a.space a.pointer ≡ true) × (blocks a.space
 abbrev pub StandingWordsAreMet : Type 0
 StandingWordsAreMet = (blocks : Blocks) (i : VmInstr) (olds : List (List ℕ)) (given : List ℕ) (m : Meaning)
     → means_of i olds given ≡ Some m → AllByRecursion (FindsItsWord blocks) m.accesses → Meets blocks m.accesses
+
+-- And back: what they find one after another stood there before the step.
+abbrev pub MetWordsStand : Type 0
+MetWordsStand = (blocks : Blocks) (i : VmInstr) (olds : List (List ℕ)) (given : List ℕ) (m : Meaning)
+    → means_of i olds given ≡ Some m → Meets blocks m.accesses → AllByRecursion (FindsItsWord blocks) m.accesses

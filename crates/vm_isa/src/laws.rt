@@ -1,5 +1,5 @@
 //! What `next_access` says of the meanings, and the constants. Each function is empty: its contract is the law.
-ghost use Rattle.vm_isa.specs.Laws.{ConstantsAreTheNumbers, DoneIsAMeaning, ElseMeaningIsLeft, GivenIsForHints, NextIsTheMeanings, NoMeaningIsFinal, SlotsOfAMeaningRise, StandingWordsAreMet};
+ghost use Rattle.vm_isa.specs.Laws.{ConstantsAreTheNumbers, DoneIsAMeaning, ElseMeaningIsLeft, GivenIsForHints, MetWordsStand, NextIsTheMeanings, NoMeaningIsFinal, SlotsOfAMeaningRise, StandingWordsAreMet};
 
 /// The opcodes, the spaces and the greatest number of accesses are those of the definitions.
 pub fn constants_are_the_numbers()
@@ -45,4 +45,10 @@ pub fn given_is_for_hints()
 #[tactic(auto, using(crate::proofs::MeetLaws::standing_words_are_met))]
 pub fn standing_words_are_met()
     ensures { StandingWordsAreMet }
+{}
+
+/// What accesses find one after another stood there before the step.
+#[tactic(auto, using(crate::proofs::MeetLaws::met_words_stand))]
+pub fn met_words_stand()
+    ensures { MetWordsStand }
 {}

@@ -46,6 +46,13 @@ impl Program {
         let _ = &self.rows;
     }
 
+    /// Law: the rows stand in rising order of pc.
+    pub fn rows_rise(&self)
+        ensures { RisesFrom 0 self.now }
+    {
+        let _ = &self.rows;
+    }
+
     /// How many rows there are: fewer than text words, where some are no instructions.
     pub fn len(&self) -> u32
         ensures { result ≡ length self.now }

@@ -1,4 +1,4 @@
-use Rattle.std.proofs.Common.{◌≡◌, ℕ, ◌+◌, ◌-◌, ◌*◌, ◌^◌, ◌<◌, ◌≤◌, cond, eqb, replicate, refl, sym, ap, ◌∙◌, subst, arith}
+use Rattle.std.proofs.Common.{◌≡◌, ℕ, ◌+◌, ◌-◌, ◌*◌, ◌^◌, ◌<◌, ◌≤◌, cond, eqb, replicate, refl, sym, ap, ◌∙◌, arith}
 use Rattle.page_tree.specs.Kept.{shown, either_half, put_at}
 use Rattle.page_tree.specs.declared.subtree.Subtree.TheVariants.{Zeros}
 use Rattle.page_tree.proofs.PartLemmas.{level-half, in_tree-half}

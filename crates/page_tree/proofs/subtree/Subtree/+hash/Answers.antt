@@ -1,4 +1,4 @@
-use Rattle.std.proofs.Common.{Box, Global, ◌≡◌, ◌++◌, refl, sym, ap, ◌∙◌, ◌-◌, ◌+◌, ◌*◌, arith}
+use Rattle.std.proofs.Common.{Box, Global, ◌++◌, refl, sym, ap, ◌∙◌, ◌-◌, ◌+◌, ◌*◌, arith}
 use Rattle.sha2.specs.Sha256.{sha256}
 use Rattle.page_tree.specs.Kept.{shown, digest_of}
 use Rattle.page_tree.specs.declared.subtree.Pair.{Pair as KeptPair}

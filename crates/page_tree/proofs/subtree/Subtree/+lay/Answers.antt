@@ -1,6 +1,5 @@
-use Rattle.std.proofs.Common.{Box, Global, ◌≡◌, ℕ, ◌+◌, ◌-◌, ◌*◌, ◌^◌, ◌<◌, ◌≤◌, refl, sym, ap, ◌∙◌, arith}
+use Rattle.std.proofs.Common.{Box, Global, ◌≡◌, ℕ, ◌+◌, ◌-◌, ◌*◌, ◌^◌, refl, sym, ap, ◌∙◌, arith}
 use Rattle.std.specs.Prelude.{⊤}
-use Rattle.page_tree.specs.Tree.{IsBelow}
 use Rattle.page_tree.specs.Kept.{shown}
 use Rattle.page_tree.specs.declared.subtree.Pair.{Pair as KeptPair}
 use Rattle.page_tree.proofs.PartLemmas.{in_tree-half}

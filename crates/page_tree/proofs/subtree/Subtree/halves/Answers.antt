@@ -1,5 +1,5 @@
-use Rattle.std.proofs.Common.{◌≡◌, ◌+◌, ◌-◌, ◌*◌, replicate, sym, ap, ◌∙◌, subst}
-use Rattle.page_tree.specs.Kept.{IsKept, shown}
+use Rattle.std.proofs.Common.{◌≡◌, ◌+◌, ◌-◌, ◌*◌, replicate, sym, ◌∙◌}
+use Rattle.page_tree.specs.Kept.{shown}
 use Rattle.page_tree.specs.declared.subtree.Subtree.TheVariants.{Zeros}
 use Rattle.page_tree.proofs.KeptLemmas.{Stands-pair, Stands-above, Stands-zeros, shown-pair, shown-zeros, half-both}
 use Rattle.page_tree.proofs.subtree.Subtree.halves.Goals as goal

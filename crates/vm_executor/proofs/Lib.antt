@@ -1,0 +1,9 @@
+pub mod ReplayLemmas
+pub mod StepLemmas
+pub mod SinceLemmas
+pub mod VmSteps
+pub mod MetWords
+pub mod KeepLemmas
+pub mod ReadLemmas
+pub mod WriteLemmas
+pub mod StepWords

@@ -1,0 +1,92 @@
+-- Memory as it is kept: pages by their labels, and the start of the run wherever no page is kept.
+use Rattle.std.specs.Prelude.{◌≡◌, ℕ, ◌+◌, ◌*◌, ◌/◌, ◌%◌, ◌<◌, List, [], ◌∷◌, All, replicate, slice_index, nat_eq, if◌then◌else◌, Option, Some, None}
+use Rattle.std.specs.Option.{option_map}
+use Rattle.elf_image.specs.Loaded.{Loaded}
+use Rattle.vm_isa.specs.Blocks.{Blocks, is_block, with_block}
+use Rattle.vm_trace.specs.declared.page.TheConstants.{SPACE_PAGES}
+use Rattle.vm_trace.specs.declared.page.Touched.{Touched}
+use Rattle.vm_trace.specs.Pages.{block_pointer, block_word, page_space, IsMachineLabel}
+use Rattle.vm_transpile.specs.Start.{start_blocks}
+use Rattle.vm_executor.specs.Machine.{with_time}
+use Rattle.vm_executor.specs.Pages.{Times, never}
+
+-- what the file gives, and the pages that were accessed since the run began, each with its bytes at the segment's start
+pub record Kept : Type 0 where
+  pub loaded : Loaded
+  pub pages : List Touched
+
+-- the place of the first page of a label
+unfoldable pub place_at : List Touched → ℕ → Option ℕ
+place_at [] label = None
+place_at (page ∷ pages) label = if nat_eq page.label label then Some 0 else option_map (λ k. k + 1) (place_at pages label)
+
+-- the page
+unfoldable pub page_at : List Touched → ℕ → Option Touched
+page_at [] label = None
+page_at (page ∷ pages) label = if nat_eq page.label label then Some page else page_at pages label
+
+-- the label of a block's page, and which of the page's blocks it is
+abbrev pub label_of : ℕ → ℕ → ℕ
+label_of space pointer = SPACE_PAGES * space + pointer / 64
+
+abbrev pub block_in : ℕ → ℕ
+block_in pointer = pointer % 64 / 4
+
+abbrev pub word_by : (Touched → List ℕ) → Option Touched → ℕ → List ℕ → List ℕ
+word_by side None block other = other
+word_by side (Some page) block other = block_word (side page) block
+
+abbrev pub time_by : Option Touched → ℕ → ℕ
+time_by None block = 0
+time_by (Some page) block = slice_index page.times block
+
+unfoldable pub blocks_by : (Touched → List ℕ) → Kept → Blocks
+blocks_by side kept space pointer =
+    if is_block space pointer
+    then word_by side (page_at kept.pages (label_of space pointer)) (block_in pointer) (start_blocks kept.loaded space pointer)
+    else start_blocks kept.loaded space pointer
+
+-- the blocks now, and where the segment began
+abbrev pub now_of : Kept → Blocks
+now_of = blocks_by (λ page. page.new)
+
+abbrev pub began_of : Kept → Blocks
+began_of = blocks_by (λ page. page.old)
+
+-- the time of each block's last access in the segment
+unfoldable pub times_of : Kept → Times
+times_of kept space pointer =
+    if is_block space pointer then time_by (page_at kept.pages (label_of space pointer)) (block_in pointer) else 0
+
+-- a block that wasn't accessed in the segment has its first word
+pub record IsIdle (page : Touched) : Type 0 where
+  pub stays : (block : ℕ) → block < 16 → slice_index page.times block ≡ 0 → block_word page.new block ≡ block_word page.old block
+
+-- pages of the machine
+pub record AreKept (pages : List Touched) : Type 0 where
+  pub machine : All (λ page. IsMachineLabel page.label) pages
+  pub idle : All IsIdle pages
+
+-- The page of a block was put into: the blocks now, at the segment's start, and their times.
+pub record PutBlock (old new : Kept) (space pointer : ℕ) (word : List ℕ) (time : ℕ) : Type 0 where
+  pub now : now_of new ≡ with_block (now_of old) space pointer word
+  pub began : began_of new ≡ began_of old
+  pub times : times_of new ≡ with_time (times_of old) space pointer time
+
+-- a page as it was where the run began, without times
+pub record IsFresh (loaded : Loaded) (page : Touched) : Type 0 where
+  pub words : (block : ℕ) → block < 16 → block_word page.new block ≡ start_blocks loaded (page_space page.label) (block_pointer page.label block)
+  pub same : page.old ≡ page.new
+  pub times : page.times ≡ replicate 16 0
+
+-- the blocks and their times stay
+pub record KeepsAll (old new : Kept) : Type 0 where
+  pub now : now_of new ≡ now_of old
+  pub began : began_of new ≡ began_of old
+  pub times : times_of new ≡ times_of old
+
+-- a segment begins
+pub record Begins (old new : Kept) : Type 0 where
+  pub now : now_of new ≡ now_of old
+  pub began : began_of new ≡ now_of old
+  pub times : times_of new ≡ never
