@@ -1,7 +1,7 @@
 -- DIV, DIVU, REM and REMU, as a core of the register form without immediates: its own columns are the signs of the
 -- two words, whether the divisor is 0, their distances from 0, the quotient and the remainder of these, the same with
 -- their signs, and LT of remainder and divisor. With the form a row has 65 columns.
-use Rattle.std.specs.Prelude.{ℕ, ◌/◌, ◌%◌, ◌^◌, ◌||◌, ◌&&◌, Bool, false, nat_eq, if◌then◌else◌, List, [], ◌∷◌, ◌++◌, map}
+use Rattle.std.specs.Prelude.{ℕ, ◌/◌, ◌%◌, ◌||◌, ◌&&◌, Bool, false, nat_eq, if◌then◌else◌, List, [], ◌∷◌, ◌++◌}
 use Rattle.std.specs.Int.{from_bool}
 use Rattle.vm_field.specs.declared.limbs.Limbs.{Limbs}
 use Rattle.vm_field.specs.Limbs.{list_of, limbs_by, limbs_from}
@@ -18,7 +18,7 @@ use Rattle.gadget_limbs.specs.OrderLaws.{digits_of}
 use Rattle.gadget_limbs.specs.Ranges.{range_lines}
 use Rattle.gadget_limbs.specs.Sign.{sign_constraints, sign_looked_up, negative_constraints}
 use Rattle.gadget_products.specs.Divide.{division_carries, division_top, differ}
-use Rattle.gadget_products.specs.Laws.{word}
+use Rattle.gadget_products.specs.Laws.{word_in}
 use Rattle.adapter_regs.specs.Core.{Core, CoreParts}
 
 abbrev pub divrem_opcodes : List ℕ
@@ -170,10 +170,6 @@ divrem_filled place left right =
     let q = quotient_by b d in
     let r = remainder_by b d in
     cells_of t s (nat_eq right 0) b d q r (negated_if (differ t s) q) (negated_if t r) ++ order_cells r d
-
--- the word that limbs make, modulo 2 ^ 32
-abbrev pub word_in : Limbs ℕ → ℕ
-word_in w = word w % 2 ^ 32
 
 abbrev pub divrem_core : Core
 divrem_core = record {

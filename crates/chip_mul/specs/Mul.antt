@@ -15,7 +15,7 @@ use Rattle.gadget_limbs.specs.Lookup.{choose}
 use Rattle.gadget_limbs.specs.Ranges.{range_lines}
 use Rattle.gadget_limbs.specs.Sign.{sign_constraints, sign_looked_up}
 use Rattle.gadget_products.specs.Multiply.{product_carries}
-use Rattle.gadget_products.specs.Laws.{word, extended_word}
+use Rattle.gadget_products.specs.Laws.{extended_word, word_in}
 use Rattle.adapter_regs.specs.Core.{Core, CoreParts}
 
 abbrev pub mul_opcodes : List ℕ
@@ -72,10 +72,6 @@ left_is_signed place = nat_eq place 1 || nat_eq place 2
 
 abbrev pub right_is_signed : ℕ → Bool
 right_is_signed place = nat_eq place 1
-
--- the word that limbs make, modulo 2 ^ 32
-abbrev pub word_in : Limbs ℕ → ℕ
-word_in w = word w % 2 ^ 32
 
 -- the columns of the opcode at a place and two words: the product of both, extended by their signs
 unfoldable pub mul_filled : ℕ → ℕ → ℕ → List ℕ

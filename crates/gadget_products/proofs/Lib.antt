@@ -7,3 +7,4 @@ pub mod Products
 pub mod PlaceCode
 pub mod CarryCode
 pub mod PlacesCode
+pub mod AddedCode

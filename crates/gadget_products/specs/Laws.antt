@@ -46,6 +46,10 @@ OneNumberHasCarries = (k out : ℕ) (sums limbs : List ℕ) → SumsAndLimbs k s
 abbrev pub word : Limbs ℕ → ℕ
 word w = word_of_limbs (list_of w)
 
+-- modulo 2 ^ 32: limbs of a row may be any elements
+abbrev pub word_in : Limbs ℕ → ℕ
+word_in w = word w % 2 ^ 32
+
 abbrev pub AreBytes : Limbs ℕ → Type 0
 AreBytes w = IsBytes (list_of w)
 

@@ -2,6 +2,7 @@
 #![tactic(auto)]
 
 mod carry;
+mod divide;
 pub mod laws;
 mod multiply;
 mod product;
@@ -9,5 +10,6 @@ mod product;
 mod tests;
 
 pub use carry::carries;
+pub use divide::Division;
 pub use multiply::{both, product_carries, word_of};
 pub use product::{place, places};

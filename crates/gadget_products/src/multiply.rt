@@ -1,9 +1,9 @@
 //! The product of two words, each extended to eight limbs.
 
 ghost use Rattle.air_core.specs.Ring.{field};
-ghost use Rattle.std.specs.Prelude.{◌≡◌, ◌%◌, ◌^◌, ◌++◌};
+ghost use Rattle.std.specs.Prelude.{◌≡◌, ◌++◌};
 ghost use Rattle.vm_field.specs.Limbs.{list_of};
-ghost use Rattle.vm_word.specs.Word.{word_of_limbs};
+ghost use Rattle.gadget_products.specs.Laws.{word_in};
 ghost use Rattle.gadget_products.specs.Multiply.{extended, product_carries};
 
 use crate::{carries, places};
@@ -50,7 +50,7 @@ pub fn product_carries(
 /// The word that limbs make, modulo 2^32: they may be any elements.
 #[tactic(auto, unfolding(vm_field::specs::Limbs::list_of))]
 pub fn word_of(limbs: Limbs) -> u32
-    ensures { result ≡ word_of_limbs (list_of limbs) % 2 ^ 32 }
+    ensures { result ≡ word_in limbs }
 {
     let low = limbs.x0.value() as u64 + limbs.x1.value() as u64 * 256;
     let high = limbs.x2.value() as u64 + limbs.x3.value() as u64 * 256;

@@ -9,7 +9,7 @@ use Rattle.std.specs.Int.{from_bool}
 use Rattle.std.specs.List.{AllByRecursion, list_any}
 use Rattle.vm_field.specs.Field.{modulus, field_sub, field_mul}
 use Rattle.vm_field.specs.declared.limbs.Limbs.{Limbs}
-use Rattle.vm_field.specs.Limbs.{list_of, limbs_from, LimbsBelow}
+use Rattle.vm_field.specs.Limbs.{list_of, limbs_from}
 use Rattle.vm_field.proofs.Constraints.{boolean_at_most, boolean_holds, gated, gate_off}
 use Rattle.vm_field.proofs.LimbLemmas.{list_of-from}
 use Rattle.vm_word.specs.Word.{word_of_limbs, limbs_of}
@@ -17,7 +17,6 @@ use Rattle.vm_word.specs.Arithmetic.{is_negative, negated_if, quotient, quotient
 use Rattle.vm_word.proofs.WordLemmas.{word_of_limbs-limbs_of}
 use Rattle.vm_isa.specs.Words.{IsBytes}
 use Rattle.vm_isa.specs.Results.{result, mul_div}
-use Rattle.air_core.specs.declared.bus.TheConstants.{XOR}
 use Rattle.air_core.specs.declared.event.Event.{Event}
 use Rattle.air_core.specs.First.{bit}
 use Rattle.air_core.specs.Flags.{sum_from, one_hot, opcode_place}
@@ -25,27 +24,27 @@ use Rattle.air_core.specs.FlagLaws.{sum_none}
 use Rattle.air_core.specs.ListLemmas.{all_left, all_right, all_append, below_at, by_zero_test, zero_test}
 use Rattle.air_core.specs.Lookups.{GoodEvent}
 use Rattle.air_core.proofs.LookupLemmas.{good_xor}
-use Rattle.air_core.specs.Ring.{field, cell, cells}
-use Rattle.air_core.specs.Sheet.{AllZero, AllBelow, sent}
+use Rattle.air_core.specs.Ring.{field}
+use Rattle.air_core.specs.Sheet.{AllZero, AllBelow}
 use Rattle.air_core.specs.lemmas.Cells.{cells_below}
 use Rattle.air_core.specs.lemmas.OneHot.{is_place, sum_one}
-use Rattle.gadget_limbs.specs.Less.{less_columns, less_constraints, less_ranges, less_filled, marks_of, differences, marks_sum, equal_above, marked_differs, top_constraint}
-use Rattle.gadget_limbs.specs.OrderLaws.{LessMeets, digits_of, word_less}
+use Rattle.gadget_limbs.specs.Less.{less_constraints, less_ranges, less_filled, marks_of, differences, marks_sum, equal_above, marked_differs, top_constraint}
+use Rattle.gadget_limbs.specs.OrderLaws.{LessMeets, digits_of}
 use Rattle.gadget_limbs.specs.Ranges.{range_lines}
-use Rattle.gadget_limbs.specs.Sign.{sign_constraints, sign_looked_up, negative_constraints, same_constraints}
+use Rattle.gadget_limbs.specs.Sign.{sign_constraints, negative_constraints, same_constraints}
 use Rattle.gadget_limbs.specs.Sum.{sum_constraints, carry_out, gated_bit}
 use Rattle.gadget_limbs.proofs.LimbsLaws.{word_below, limbs_word, bytes_below}
 use Rattle.gadget_limbs.proofs.RangeLaws.{ranges_good, good_ranges, ranges_count, ranges_silent}
 use Rattle.gadget_limbs.proofs.SignLaws.{sign_full, sign_full_zero, sign_full_row, from_bool_small, negative_law, negative_holds}
-use Rattle.gadget_limbs.proofs.WordOrder.{word_order, filled_cells, filled_order}
+use Rattle.gadget_limbs.proofs.WordOrder.{word_order, filled_order}
 use Rattle.gadget_products.specs.Product.{places, place}
 use Rattle.gadget_products.specs.Carry.{carries, last_carry, carry_out as quotient_carry}
 use Rattle.gadget_products.specs.Divide.{division_carries, division_top, differ, division_sums, added}
-use Rattle.gadget_products.specs.Laws.{word, Below11}
+use Rattle.gadget_products.specs.Laws.{word, word_in, Below11}
 use Rattle.gadget_products.proofs.DivideLaws.{division_law, division_holds}
 use Rattle.gadget_products.proofs.SignedDivision.{Division, unsigned, signed as signed_parts}
-use Rattle.adapter_regs.specs.Core.{Operands, CoreLaws, IsCoreAt, IsResult, IsResultOf, IsGoodCore, IsPlaced, IsLookup, no_operands}
-use Rattle.chip_divrem.specs.DivRem.{Divided, divided_of, order_of, signed, quotients, remainders, chosen_limb, chosen, signs_differ, zero_constraints, not_below, sign_part, word_part, result_part, order_part, divrem_constraints, first_bytes, last_bytes, divrem_lookups, is_signed, quotient_by, remainder_by, cells_of, order_cells, divrem_filled, word_in, divrem_opcodes, divrem_core}
+use Rattle.adapter_regs.specs.Core.{Operands, CoreLaws, IsCoreAt, IsResult, IsGoodCore, IsPlaced, IsLookup, no_operands}
+use Rattle.chip_divrem.specs.DivRem.{Divided, divided_of, order_of, signed, quotients, remainders, chosen_limb, chosen, signs_differ, zero_constraints, not_below, sign_part, word_part, result_part, order_part, divrem_constraints, first_bytes, last_bytes, divrem_lookups, is_signed, quotient_by, remainder_by, cells_of, order_cells, divrem_filled, divrem_opcodes, divrem_core}
 
 abbrev Silent : Event → Type 0
 Silent e = e.count ≡ 0

@@ -29,11 +29,11 @@ use Rattle.gadget_limbs.proofs.SignLaws.{sign_full, sign_full_zero, sign_full_ro
 use Rattle.gadget_products.specs.Product.{places}
 use Rattle.gadget_products.specs.Carry.{carries}
 use Rattle.gadget_products.specs.Multiply.{product_carries}
-use Rattle.gadget_products.specs.Laws.{word, extended_word, Below11}
+use Rattle.gadget_products.specs.Laws.{word, word_in, extended_word, Below11}
 use Rattle.gadget_products.proofs.MultiplyLaws.{multiply_law, multiply_holds}
 use Rattle.gadget_products.proofs.Products.{Product, both_signed, first_signed, unsigned_high, unsigned_low}
 use Rattle.adapter_regs.specs.Core.{Operands, CoreLaws, IsCoreAt, IsResult, IsResultOf, IsGoodCore, IsPlaced, IsLookup, no_operands}
-use Rattle.chip_mul.specs.Mul.{Products, products_of, left_signed, right_signed, chosen, mul_lookups, mul_constraints, left_is_signed, right_is_signed, word_in, mul_filled, mul_opcodes, mul_core}
+use Rattle.chip_mul.specs.Mul.{Products, products_of, left_signed, right_signed, chosen, mul_lookups, mul_constraints, left_is_signed, right_is_signed, mul_filled, mul_opcodes, mul_core}
 
 abbrev Silent : Event → Type 0
 Silent e = e.count ≡ 0

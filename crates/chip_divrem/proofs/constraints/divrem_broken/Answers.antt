@@ -1,5 +1,4 @@
-use Rattle.std.proofs.Common.{◌≡◌, ◌∙◌, ℕ, ◌+◌, List, [], ◌∷◌, ◌++◌, length, sym, ap, arith}
-use Rattle.vm_field.specs.Limbs.{list_of}
+use Rattle.std.proofs.Common.{◌∙◌, ℕ, ◌+◌, ◌++◌, sym, ap, arith}
 use Rattle.air_core.specs.First.{first_from, or_else}
 use Rattle.air_core.specs.Ring.{field}
 use Rattle.air_core.proofs.FirstLemmas.{first_from-part}

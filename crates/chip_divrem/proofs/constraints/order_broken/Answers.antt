@@ -1,9 +1,8 @@
-use Rattle.std.proofs.Common.{◌≡◌, ◌∙◌, ℕ, ◌+◌, List, [], ◌∷◌, ◌++◌, length, sym, ap, arith}
+use Rattle.std.proofs.Common.{◌+◌, [], ◌∷◌, sym, arith}
 use Rattle.vm_field.specs.Limbs.{list_of}
-use Rattle.air_core.specs.First.{first_from, or_else}
-use Rattle.air_core.specs.Ring.{field, cell}
+use Rattle.air_core.specs.Ring.{field}
 use Rattle.air_core.proofs.FirstLemmas.{first_from-part}
-use Rattle.gadget_limbs.specs.Less.{less_columns, less_constraints}
+use Rattle.gadget_limbs.specs.Less.{less_constraints}
 use Rattle.gadget_limbs.specs.OrderLaws.{digits_of}
 use Rattle.chip_divrem.specs.DivRem.{divided_of, order_of, order_part, not_below}
 use Rattle.chip_divrem.proofs.Parts.{length-less}

@@ -1,6 +1,4 @@
-use Rattle.std.proofs.Common.{◌≡◌, ◌∙◌, ℕ, ◌+◌, List, [], ◌∷◌, ◌++◌, length, sym, ap, arith}
-use Rattle.vm_field.specs.Limbs.{list_of}
-use Rattle.air_core.specs.First.{first_from, or_else}
+use Rattle.std.proofs.Common.{◌+◌, sym, arith}
 use Rattle.air_core.specs.Ring.{field}
 use Rattle.air_core.proofs.FirstLemmas.{first_from-part}
 use Rattle.gadget_limbs.specs.Sign.{sign_constraints}
