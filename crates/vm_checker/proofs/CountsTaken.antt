@@ -1,12 +1,11 @@
 -- Entries and pages that were read, and what they say.
-use Rattle.std.proofs.Common.{◌≡◌, ℕ, ◌+◌, ◌*◌, ◌^◌, ◌<◌, ◌≤◌, true, List, [], ◌∷◌, ◌++◌, length, map, Option, Some, None, refl, sym, ap, subst, ◌∙◌, arith, length-append, append-nil, append_assoc, inl, inr}
-use Rattle.std.specs.Prelude.{flat_map, ◌⊎◌}
-use Rattle.std.specs.List.{AllByRecursion}
+use Rattle.std.proofs.Common.{◌≡◌, ℕ, ◌+◌, ◌*◌, ◌^◌, ◌<◌, ◌≤◌, true, List, [], ◌∷◌, ◌++◌, length, map, Option, Some, None, refl, sym, ap, subst, ◌∙◌, arith, append-nil, inl, inr}
+use Rattle.std.specs.Prelude.{flat_map}
 use Rattle.std.specs.List.Sorted.{IsStrictlyIncreasing}
 use Rattle.std.proofs.lemmas.Grind.{flat_map-append}
 use Rattle.std.proofs.lemmas.List.Elements.{All-from_recursion}
 use Rattle.readings.specs.Exact.{Each}
-use Rattle.readings.specs.Readings.{Reading, chain}
+use Rattle.readings.specs.Readings.{chain}
 use Rattle.readings.specs.declared.Stop.{Stop}
 use Rattle.readings.proofs.Gives.{state_after}
 use Rattle.vm_host.specs.declared.Slot.TheVariants.{Second}
@@ -24,7 +23,7 @@ use Rattle.page_tree.specs.Opening.{AreLabels}
 use Rattle.page_tree.specs.Parts.{label_of, labels_of}
 use Rattle.acceptance.specs.Events.{fixed_row, received_row, entry_events, received_on}
 use Rattle.table_format.specs.declared.reason.Reason.{Reason}
-use Rattle.table_format.specs.Order.{PageAt, entry, next_least, next_page, first_page, first_stand}
+use Rattle.table_format.specs.Order.{PageAt, entry, next_least, next_page, first_page}
 use Rattle.table_format.specs.Stream.{Held}
 use Rattle.table_format.proofs.Drawn.{Drew, Halts, drew_none, drew_more, halts_chained}
 use Rattle.vm_checker.specs.FirstReason.{page_test}

@@ -1,15 +1,13 @@
 -- No test of a file fails exactly where it is accepted.
-use Rattle.std.proofs.Common.{◌≡◌, ℕ, ◌+◌, ◌≤◌, Bool, true, false, nat_eq, List, [], ◌∷◌, length, Option, Some, None, refl, sym, ap, subst, ◌∙◌, arith}
-use Rattle.std.specs.Prelude.{◌↔◌, not}
+use Rattle.std.proofs.Common.{◌≡◌, ℕ, ◌≤◌, Bool, true, false, List, [], ◌∷◌, length, Option, Some, None, refl, sym, ap, subst, ◌∙◌, arith}
+use Rattle.std.specs.Prelude.{not}
 use Rattle.std.specs.List.{AllByRecursion}
 use Rattle.std.specs.Cmp.Lexicographic.{same_text}
 use Rattle.std.proofs.lemmas.Bool.{eqb-true, eq-eqb}
 use Rattle.std.proofs.lemmas.List.Elements.{All-from_recursion}
 use Rattle.elf_image.specs.Loaded.{Loaded}
-use Rattle.readings.specs.Exact.{IsBytes}
 use Rattle.vm_isa.specs.Blocks.{Terminates}
-use Rattle.vm_trace.specs.declared.page.TheConstants.{PUBLIC_LABEL}
-use Rattle.vm_trace.specs.Canonical.{IsDigest, IsCanonicalSegment, IsCanonical, IsCanonicalClaim}
+use Rattle.vm_trace.specs.Canonical.{IsDigest, IsCanonicalSegment, IsCanonicalClaim}
 use Rattle.vm_trace.specs.File.{Segment, File}
 use Rattle.vm_trace.specs.Limits.{Limits, limits_of}
 use Rattle.vm_transpile.specs.Program.{program_of}
@@ -19,17 +17,17 @@ use Rattle.air_core.specs.System.{System}
 use Rattle.page_tree.specs.Tree.{root}
 use Rattle.page_tree.specs.Opening.{AreDigests}
 use Rattle.page_tree.specs.Start.{start_map}
-use Rattle.acceptance.specs.Accepts.{AreLinked, last_pc, last_root, OnlyLastEnds, IsPublic, ClaimHolds, Accepts, shape_of}
+use Rattle.acceptance.specs.Accepts.{AreLinked, last_pc, last_root, OnlyLastEnds, ClaimHolds, shape_of}
 use Rattle.acceptance.specs.Holds.{SegmentHolds}
 use Rattle.table_format.specs.declared.reason.Reason.TheVariants as reason
-use Rattle.table_format.specs.Exactly.{Passes, AllPass, PassesFile, IsPassed}
+use Rattle.table_format.specs.Exactly.{Passes, AllPass, PassesFile}
 use Rattle.table_format.specs.Order.{Stand, Tests, first_stand, next_stand, stand_after}
 use Rattle.table_format.proofs.ExactItems.{want_so, so_want, are_same}
 use Rattle.table_format.proofs.ExactFile.{no_reason, no_reason_in_a_piece, spelled_once}
 use Rattle.vm_checker.specs.declared.Before.{Before}
-use Rattle.vm_checker.specs.FirstReason.{start_behind, segment_tests, says_end, follows_test, closed_test, exit_code, code_test, public_test, claim_test, file_tests, rejection}
-use Rattle.vm_checker.specs.Exactly.{SegmentStands, SegmentRejectedExactly, KeepTimes, IsAcceptedFile, RejectedExactly, AcceptedFileIsOne}
-use Rattle.vm_checker.proofs.SegmentTests.{neither, both_none, AllPassed, all_rows_hold, all_rows_pass, stands, passes, code_ends, ends_code}
+use Rattle.vm_checker.specs.FirstReason.{start_behind, segment_tests, says_end, exit_code, code_test, public_test, file_tests}
+use Rattle.vm_checker.specs.Exactly.{SegmentStands, SegmentRejectedExactly, RejectedExactly, AcceptedFileIsOne}
+use Rattle.vm_checker.proofs.SegmentTests.{neither, both_none, all_rows_hold, all_rows_pass, stands, passes, code_ends, ends_code}
 
 not_so : (b : Bool) → not b ≡ true → b ≡ false
 not_so true h = absurd cc

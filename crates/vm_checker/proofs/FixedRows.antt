@@ -1,5 +1,5 @@
 -- The row of a lookup table that code gives is that of its place.
-use Rattle.std.proofs.Common.{◌≡◌, ℕ, List, refl, sym, ap, ◌∙◌}
+use Rattle.std.proofs.Common.{◌≡◌, ℕ, List, refl, sym}
 use Rattle.std.specs.Prelude.{Option, None, Some, ◌↔◌}
 use Rattle.lookup_tables.specs.Places.{IsRowAt}
 use Rattle.lookup_tables.specs.Rows.{row_at}

@@ -1,6 +1,5 @@
 -- Rows and tables that were read and not kept.
-use Rattle.std.proofs.Common.{◌≡◌, ℕ, zero, suc, ◌+◌, ◌*◌, ◌^◌, ◌<◌, ◌≤◌, true, List, [], ◌∷◌, ◌++◌, length, map, Option, Some, None, refl, sym, ap, subst, ◌∙◌, arith, length-append, append_assoc, append-nil, slice_index}
-use Rattle.std.specs.Prelude.{count_by}
+use Rattle.std.proofs.Common.{◌≡◌, ℕ, ◌+◌, ◌*◌, ◌^◌, ◌<◌, ◌≤◌, true, List, [], ◌∷◌, ◌++◌, length, map, refl, sym, ap, subst, ◌∙◌, arith, length-append, append_assoc, append-nil, slice_index}
 use Rattle.std.specs.List.{AllByRecursion, slice_index_or}
 use Rattle.std.proofs.lemmas.List.{map-append}
 use Rattle.std.proofs.lemmas.List.Sums.{count_by-le-length}
@@ -19,8 +18,8 @@ use Rattle.table_format.specs.Stream.{Held}
 use Rattle.table_format.proofs.Drawn.{Drew, Halts, drew_none, drew_more, halts_chained}
 use Rattle.vm_checker.specs.declared.tally.Tally.{Tally}
 use Rattle.vm_checker.specs.Heard.{room_left}
-use Rattle.vm_checker.specs.Items.{row_of, rows_of, tables_of}
-use Rattle.vm_checker.specs.Kept.{Tallied, joined}
+use Rattle.vm_checker.specs.Items.{row_of, rows_of}
+use Rattle.vm_checker.specs.Kept.{Tallied}
 use Rattle.vm_checker.proofs.Places.{drew_here, halts_here}
 use Rattle.vm_checker.proofs.Tallying.{tallied_none, tallied_both}
 

@@ -13,7 +13,7 @@ use Rattle.vm_isa.specs.declared.opcode.TheConstants.{TERMINATE}
 use Rattle.vm_isa.specs.Blocks.{Terminates}
 use Rattle.vm_trace.specs.declared.page.TheConstants.{REGISTER_LABEL, MEMORY_LABEL, PUBLIC_LABEL}
 use Rattle.vm_trace.specs.declared.page.Touched.{Touched}
-use Rattle.vm_trace.specs.Canonical.{Shape, HasWidth, IsTable, AreTables, IsDigest, IsCanonicalPage, IsCanonicalSegment, height_of}
+use Rattle.vm_trace.specs.Canonical.{HasWidth, AreTables, IsDigest, IsCanonicalPage, IsCanonicalSegment}
 use Rattle.vm_trace.specs.File.{Segment}
 use Rattle.vm_trace.specs.Limits.{Limits}
 use Rattle.vm_trace.specs.Pages.{IsMachineLabel}
@@ -24,15 +24,14 @@ use Rattle.air_core.specs.Balance.{Balanced}
 use Rattle.air_core.specs.First.{first_from}
 use Rattle.air_core.specs.ListLemmas.{all_weaker}
 use Rattle.air_core.specs.Sheet.{Sheet, IsRow, RowHolds}
-use Rattle.air_core.specs.System.{System, Part, EachRow, no_part, part_at, sheet_at}
+use Rattle.air_core.specs.System.{System, Part, EachRow, no_part, sheet_at}
 use Rattle.air_core.proofs.FirstLemmas.{first_from-none, first_from-all}
-use Rattle.bus_core.specs.declared.Unbalanced.{Unbalanced}
 use Rattle.bus_core.specs.Least.{least_uneven}
 use Rattle.bus_core.proofs.LeastOf.{least_uneven_is}
 use Rattle.page_tree.specs.Opening.{AreDigests, opening_root, siblings_needed}
-use Rattle.page_tree.specs.Parts.{labels_of, label_of, old_bytes_at, new_bytes_at, AreRoots}
+use Rattle.page_tree.specs.Parts.{labels_of, label_of, old_bytes_at}
 use Rattle.acceptance.specs.Events.{segment_events}
-use Rattle.acceptance.specs.Holds.{IsMachinePage, SegmentHolds, most_slots}
+use Rattle.acceptance.specs.Holds.{IsMachinePage, most_slots}
 use Rattle.table_format.specs.declared.reason.Reason.{Reason}
 use Rattle.table_format.specs.declared.reason.Reason.TheVariants as reason
 use Rattle.table_format.specs.Exactly.{RowsPass}
@@ -40,7 +39,7 @@ use Rattle.table_format.specs.Order.{want, same_bytes, PageAt, next_page, first_
 use Rattle.table_format.proofs.ExactItems.{want_so, so_want, are_same}
 use Rattle.vm_checker.specs.declared.Before.{Before}
 use Rattle.vm_checker.specs.FirstReason.{slots_of, slots_test, row_test, is_machine_label, page_test, uneven_reason, balance_test, number_test, siblings_test, code_of, exit_code, has_root, has_pc, start_root_test, end_root_test, start_pc_test, end_test, whole_test}
-use Rattle.vm_checker.specs.Exactly.{BeginsAt, EndsAtATerminate, SegmentStands}
+use Rattle.vm_checker.specs.Exactly.{BeginsAt, SegmentStands}
 
 -- ---- tests one after the other
 

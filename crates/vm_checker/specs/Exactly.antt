@@ -1,5 +1,5 @@
 -- A reason exists exactly where a file is not accepted.
-use Rattle.std.specs.Prelude.{◌≡◌, ℕ, ◌≤◌, ◌↔◌, true, List, length, Option, Some, None}
+use Rattle.std.specs.Prelude.{◌≡◌, ℕ, ◌≤◌, ◌↔◌, true, List, Option, Some, None}
 use Rattle.elf_image.specs.Loaded.{Loaded}
 use Rattle.readings.specs.Readings.{first_reason}
 use Rattle.readings.specs.Exact.{IsBytes}

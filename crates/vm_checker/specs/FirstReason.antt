@@ -1,6 +1,6 @@
 -- Why a file of tables is rejected: the tests that a check makes beside those of the file's form, item by item. Behind
 -- which item each of them stands says the form's `Order`.
-use Rattle.std.specs.Prelude.{ℕ, ◌+◌, ◌-◌, ◌*◌, ◌^◌, ◌==◌, Bool, true, false, ◌&&◌, ◌||◌, not, nat_eq, nat_lt, nat_le, find, List, [], ◌∷◌, length, slice_index, Option, Some, None, is_some, if◌then◌else◌}
+use Rattle.std.specs.Prelude.{ℕ, ◌+◌, ◌-◌, ◌*◌, ◌^◌, ◌==◌, Bool, true, false, ◌&&◌, ◌||◌, not, nat_eq, nat_lt, nat_le, find, List, [], ◌∷◌, slice_index, Option, Some, None, is_some, if◌then◌else◌}
 use Rattle.std.specs.Option.{option_map, option_or, option_and_then}
 use Rattle.elf_image.specs.Loaded.{Loaded}
 use Rattle.readings.specs.Readings.{first_reason}

@@ -113,6 +113,7 @@ pub(crate) fn take_siblings<H: Host>(
     ensures reads { (events : List AnEvent) → Hears said.now events → ReadsBy (siblings_of segment events pages.now) (λ digests k. k.items ≡ digests)
         stream.old stream.new (H.state host.old) (H.state host.new) result }
     ensures right { IfOk result (λ siblings. length siblings.items ≡ siblings_needed (labels_of pages.now)) }
+    ensures few { IfOk result (λ siblings. length siblings.items < 2 ^ 32) }
 {
     let count = take_number(alloc, stream, host, said, pages, segment)?;
     let mut siblings = Vec::new(alloc);

@@ -11,17 +11,19 @@ ghost use Rattle.table_format.specs.Stream.{ReadsBy};
 ghost use Rattle.air_core.specs.Sink.{Handed};
 ghost use Rattle.exec_path.specs.PathEvents.{connector_events};
 ghost use Rattle.vm_checker.specs.Heard.{Hears, room_left};
-ghost use Rattle.vm_checker.specs.Facts.{AreFacts, code_at};
-ghost use Rattle.vm_checker.specs.Items.{inside_of};
+ghost use Rattle.vm_checker.specs.Facts.{AreFacts, IsSegment, code_at};
+ghost use Rattle.vm_checker.specs.Items.{inside_of, segment_by};
 ghost use Rattle.vm_checker.specs.Inside.{IsInside};
 
+use crate::Before;
 use crate::counts::take_counts;
+use crate::heights::take_codes;
 use crate::hints::HintBytes;
 use crate::pages::{take_pages, take_siblings};
 use crate::spelled::push_hints;
 use crate::tables::take_tables;
 use crate::tally::Tally;
-use crate::whole::exit_code;
+use crate::whole::{exit_code, whole_reason};
 use air_core::bus::EXECUTION;
 use air_core::{Event, EventSink, Extension, OutOfMemory, Side, Tuple};
 use page_tree::Digest;
@@ -88,7 +90,7 @@ pub(crate) fn take_inside<E: Extension, H: Host>(
     requires low { AllByRecursion (λ code. code ≤ 25) codes.now }
     ensures reads { ReadsBy (inside_of (E.system ext.now) program.now segment (bounds_in bounds.now) codes.now) (IsInside (E.system ext.now))
         stream.old stream.new (H.state host.old) (H.state host.new) result }
-    ensures opens { IfOk result (λ inside. IsStrictlyIncreasing (labels_of inside.pages.items) × (AreLabels (labels_of inside.pages.items) × (length inside.siblings.items ≡ siblings_needed (labels_of inside.pages.items)))) }
+    ensures opens { IfOk result (λ inside. IsStrictlyIncreasing (labels_of inside.pages.items) × (AreLabels (labels_of inside.pages.items) × ((length inside.siblings.items ≡ siblings_needed (labels_of inside.pages.items)) × (length inside.siblings.items < 2 ^ 32)))) }
 {
     let mut tally = begin(alloc, &bounds.connector)?;
     take_tables(alloc, stream, host, ext, codes, &mut tally, segment)?;
@@ -155,4 +157,40 @@ fn facts_of(
         rows: tally.valid,
         hints: HintBytes::of(hints),
     })
+}
+
+/// Reads and tests one segment of a version, from the first byte behind its mark, and answers with what it says.
+///
+/// `place` is its number among the segments of a file, which reasons name. `before` is where it is to begin, if that is
+/// known. It is refused with the first test that fails. `Fault` comes only where the host's count of faults rose.
+pub fn check_segment<E: Extension, H: Host>(
+    alloc: Global,
+    ext: &E,
+    version: u32,
+    program: &Program,
+    stream: &mut Stream,
+    host: &mut H,
+    place: u32,
+    before: Option<Before>,
+) -> Result<SegmentFacts, Stop<Reason>>
+    requires open { ((H.state host.old).input Second).is_open ≡ true }
+    ensures { ReadsBy (segment_by (limits_of version).greatest_code (E.system ext.now) program.now before place) (IsSegment (E.system ext.now) program.now)
+        stream.old stream.new (H.state host.old) (H.state host.new) result }
+{
+    let bounds = stream.bounds(host)?;
+    let codes = take_codes(alloc, stream, host, ext, greatest_code(version), place)?;
+    let inside = take_inside(alloc, stream, host, ext, program, &bounds, &codes, place)?;
+    let reason = whole_reason(
+        program,
+        before,
+        place,
+        &bounds,
+        &inside.pages,
+        &inside.siblings,
+    );
+    let facts = facts_of(alloc, program, &bounds, &inside.tally)?;
+    match reason {
+        Some(reason) => Err(Stop::Refused(reason)),
+        None => Ok(facts),
+    }
 }

@@ -1,4 +1,4 @@
-use Rattle.std.proofs.Common.{◌≡◌, ℕ, ◌<◌, arith, subst}
+use Rattle.std.proofs.Common.{◌≡◌, ℕ, arith, subst}
 use Rattle.readings.specs.Readings.{chain}
 use Rattle.table_format.specs.Order.{entry, next_least}
 use Rattle.table_format.proofs.Drawn.{Drew, drew_is, drew_seen, drew_both, drew_answers, halts_of, halts_then, seen_halts, halts_answers, memory_halts}

@@ -1,4 +1,3 @@
-use Rattle.std.proofs.Common.{◌≡◌, cond, false, sym, ap, ◌∙◌, nat_eq}
 use Rattle.std.proofs.lemmas.Bool.{ne_eqb}
 use Rattle.vm_checker.proofs.FixedRows.{is_row_at}
 use Rattle.vm_checker.proofs.fixed.fixed_row.Goals as goal

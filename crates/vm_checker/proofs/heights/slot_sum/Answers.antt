@@ -1,5 +1,4 @@
-use Rattle.std.proofs.Common.{◌≡◌, ◌+◌, ◌^◌, ◌<◌, ◌≤◌, length, slice_index, rules, arith}
-use Rattle.air_core.specs.System.{no_part}
+use Rattle.std.proofs.Common.{◌^◌, ◌<◌, ◌≤◌, length, slice_index, rules, arith}
 use Rattle.vm_checker.proofs.Holding.{all_at_place}
 use Rattle.vm_checker.proofs.Places.{slots_more, slots_step, add_small, product_small, height_small}
 use Rattle.vm_checker.proofs.heights.slot_sum.Goals as goal

@@ -1,7 +1,7 @@
-use Rattle.std.proofs.Common.{◌≡◌, ◌≤◌, ◌∷◌, [], refl, arith, length-append, subst}
+use Rattle.std.proofs.Common.{◌≤◌, ◌∷◌, [], refl, arith, length-append}
 use Rattle.air_core.specs.ListLemmas.{all_append}
 use Rattle.table_format.specs.Order.{height_code, next_place}
-use Rattle.table_format.proofs.Drawn.{Drew, drew_is, drew_none, drew_more, drew_answers, halts_of, halts_chained, halts_answers, memory_halts}
+use Rattle.table_format.proofs.Drawn.{drew_is, drew_none, drew_more, halts_of, halts_chained, halts_answers, memory_halts}
 use Rattle.table_format.proofs.Draws.{draws_both}
 use Rattle.vm_checker.proofs.Places.{drew_here, halts_here}
 use Rattle.vm_checker.proofs.heights.take_list.Goals as goal

@@ -1,5 +1,4 @@
 use Rattle.std.proofs.Common.{◌≡◌, ℕ, ◌∷◌, [], ◌∙◌, refl, arith, subst, length-append}
-use Rattle.readings.specs.Readings.{chain}
 use Rattle.table_format.specs.Order.{digest, digests, next_place}
 use Rattle.table_format.proofs.Drawn.{Drew, drew_is, drew_none, drew_more, drew_seen, drew_both, drew_answers, halts_of, halts_first, halts_then, halts_chained, seen_halts, halts_answers, memory_halts}
 use Rattle.table_format.proofs.Draws.{draws_both}
@@ -43,3 +42,6 @@ returns-clause-reads g c = λ events heard.
 
 pub returns-clause-right : goal.returns-clause-right
 returns-clause-right g c = let k : c.loop.counter ≡ c.in_ok-count.count = omega arith in c.loop.invariant.number ∙ k ∙ c.in_ok-count.ensures.right
+
+pub returns-clause-few : goal.returns-clause-few
+returns-clause-few g c = omega (arith, c.loop.invariant.number)

@@ -1,7 +1,5 @@
-use Rattle.std.proofs.Common.{◌≡◌, ℕ, List, [], ◌++◌, ◌∙◌, refl, sym, ap, subst, arith}
-use Rattle.std.specs.Prelude.{flat_map}
+use Rattle.std.proofs.Common.{List, ◌++◌, ◌∙◌, sym, ap, subst, arith}
 use Rattle.vm_trace.specs.declared.page.Touched.{Touched}
-use Rattle.offline_memory.specs.MemoryEvents.{boundary_events}
 use Rattle.table_format.specs.Items.{bounds_in}
 use Rattle.table_format.proofs.Drawn.{Drew, Halts, drew_of, drew_both, drew_answers, halts_of, halts_first, halts_then, halts_answers, memory_halts}
 use Rattle.table_format.proofs.Draws.{draws_none}
@@ -9,7 +7,6 @@ use Rattle.air_core.specs.declared.hint.HintWord.{HintWord}
 use Rattle.acceptance.specs.Events.{said_by_rows}
 use Rattle.acceptance.specs.Spelled.{AreHints}
 use Rattle.vm_checker.specs.Items.{said_in, siblings_of}
-use Rattle.vm_checker.specs.Kept.{counts_said}
 use Rattle.vm_checker.proofs.InsideTaken.{heard_all}
 use Rattle.vm_checker.proofs.segment.take_inside.Goals as goal
 

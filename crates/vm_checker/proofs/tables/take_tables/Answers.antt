@@ -1,7 +1,4 @@
-use Rattle.std.proofs.Common.{◌≡◌, ℕ, ◌+◌, ◌*◌, ◌^◌, ◌<◌, ◌≤◌, List, length, map, slice_index, subst, arith}
-use Rattle.std.specs.List.{AllByRecursion}
-use Rattle.vm_host.specs.State.{HostState}
-use Rattle.vm_trace.specs.Canonical.{height_of}
+use Rattle.std.proofs.Common.{ℕ, ◌+◌, ◌*◌, ◌^◌, ◌<◌, ◌≤◌, length, slice_index, subst, arith}
 use Rattle.table_format.proofs.Drawn.{Drew, Halts, drew_of, halts_of, halts_answers}
 use Rattle.vm_checker.specs.Heard.{room_left}
 use Rattle.vm_checker.specs.Items.{rows_of}

@@ -1,9 +1,6 @@
-use Rattle.std.proofs.Common.{◌≡◌, ℕ, ◌+◌, List, [], ◌∷◌, ◌++◌, refl, sym, ap, subst, ◌∙◌, append-nil, inl, inr}
-use Rattle.std.specs.Prelude.{count_by}
-use Rattle.acceptance.specs.Events.{is_valid}
+use Rattle.std.proofs.Common.{List, [], ◌∷◌, ◌++◌, refl, sym, ap, ◌∙◌, append-nil, inl, inr}
 use Rattle.air_core.specs.Sheet.{row_events}
 use Rattle.air_core.specs.System.{sheet_at}
-use Rattle.vm_checker.specs.declared.tally.Tally.{Tally}
 use Rattle.vm_checker.proofs.Tallying.{Counted, counted_more, counted_same, tallied_one}
 use Rattle.vm_checker.proofs.tally.Tally.add.Goals as goal
 use Rattle.vm_checker.proofs.tally.Tally.add.Goals.{then-path-before, else-path-before}
