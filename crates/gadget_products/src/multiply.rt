@@ -40,10 +40,7 @@ pub fn product_carries(
 ) -> [Fe; 8]
     ensures { result ≡ product_carries field left_sign right_sign left right low high }
 {
-    let sums = places::<8>(
-        &extended(left_sign, left),
-        &extended(right_sign, right),
-    );
+    let sums = places::<8>(&extended(left_sign, left), &extended(right_sign, right));
     carries(&sums, &both(low, high))
 }
 
