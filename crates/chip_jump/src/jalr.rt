@@ -6,7 +6,7 @@ ghost use Rattle.air_core.specs.Ring.{field, cell};
 ghost use Rattle.adapter_mem.specs.Pointer.{part as part_of};
 ghost use Rattle.air_core.specs.Sheet.{counted};
 ghost use Rattle.air_core.specs.Sink.{Handed, HandedSome};
-ghost use Rattle.chip_jump.specs.Jalr.{imm_at, base_at, link_at, jalr_constraints, jalr_lines, jalr_numbers, jalr_touches, base_filled, link_filled, target_sum, jalr_form};
+ghost use Rattle.chip_jump.specs.Jalr.{imm_at, base_at, link_at, jalr_constraints, jalr_lines, jalr_numbers, jalr_touches, base_filled, link_filled, target_sum, target_filled, jalr_form};
 
 use crate::link::{bit_of, byte, emit_word, link_difference, word_of};
 use adapter_mem::{part, pointer, pointer_constraints};
@@ -115,18 +115,25 @@ fn target_sum(done: &StepRecord) -> u32
     vm_word::of_limbs(base).wrapping_add(vm_word::of_limbs(i.imm))
 }
 
+/// The halves of the sum, and its remainder by 2.
+fn target_cells(done: &StepRecord) -> [Fe; 3]
+    ensures { result ≡ target_filled done.now }
+{
+    let sum = target_sum(done);
+    [element(sum % 65536), element(sum / 65536), element(sum % 2)]
+}
+
 #[tactic(auto, unfolding(vm_field::specs::Limbs::list_of))]
 fn cells(done: &StepRecord) -> [Fe; 28]
     ensures { result ≡ jalr_form.filled done.now }
 {
     let i = done.instr;
-    let first = access_at(&done.accesses, 0);
-    let second = access_at(&done.accesses, 1);
+    let (first, second) = (access_at(&done.accesses, 0), access_at(&done.accesses, 1));
     let (read, write) = (gap_of(&first), gap_of(&second));
     let (read_word, old_word) = (first.access.old, second.access.old);
     let (base, old) = (Limbs::of_bytes(&read_word), Limbs::of_bytes(&old_word));
     let (imm, link) = (Limbs::of_bytes(&i.imm), link_word(done));
-    let sum = target_sum(done);
+    let [low, high, remainder] = target_cells(done);
     [
         byte(i.rd),
         byte(i.rs1),
@@ -147,9 +154,9 @@ fn cells(done: &StepRecord) -> [Fe; 28]
         old.x1,
         old.x2,
         old.x3,
-        element(sum % 65536),
-        element(sum / 65536),
-        element(sum % 2),
+        low,
+        high,
+        remainder,
         read.before,
         read.lo,
         read.hi,

@@ -1,6 +1,6 @@
 //! Filled rows by hand and at the edges, and what refuses another link, another sum and a target that is too high.
 
-ghost use Rattle.std.specs.Prelude.{◌≡◌, ◌≤◌, ◌<◌, ◌^◌, true, IfOk};
+ghost use Rattle.std.specs.Prelude.{◌≡◌, ◌≤◌, ◌<◌, ◌^◌, true, IfOk, length};
 ghost use Rattle.vm_isa.specs.Opcodes.{is_from};
 
 use crate::{Auipc, AuipcAt, AuipcForm, JalLui, JalLuiAt, JalLuiForm, Jalr, JalrAt, JalrForm};
@@ -114,6 +114,34 @@ fn step(
     })
 }
 
+/// Writes the columns behind the flags.
+fn fill_jal(done: &StepRecord, row: &mut [Fe])
+    requires wide { length row.old ≡ 22 }
+    requires owned { is_from 25 26 done.now.instr.op ≡ true }
+    requires pc_low { done.now.instr.pc < 2 ^ 29 }
+    requires time_low { done.now.time < 2 ^ 29 }
+{
+    JalLuiForm::fill(done, &mut row[4..]);
+}
+
+fn fill_auipc(done: &StepRecord, row: &mut [Fe])
+    requires wide { length row.old ≡ 23 }
+    requires owned { done.now.instr.op ≡ 28 }
+    requires pc_low { done.now.instr.pc < 2 ^ 29 }
+    requires time_low { done.now.time < 2 ^ 29 }
+{
+    AuipcForm::fill(done, &mut row[3..]);
+}
+
+fn fill_jalr(done: &StepRecord, row: &mut [Fe])
+    requires wide { length row.old ≡ 31 }
+    requires owned { done.now.instr.op ≡ 27 }
+    requires pc_low { done.now.instr.pc < 2 ^ 29 }
+    requires time_low { done.now.time < 2 ^ 29 }
+{
+    JalrForm::fill(done, &mut row[3..]);
+}
+
 fn jal_row(
     alloc: Global,
     op: u8,
@@ -130,7 +158,7 @@ fn jal_row(
     row[0] = element(pc);
     row[1] = element(70000);
     row[2 + (op - opcode::JAL) as usize] = Fe::ONE;
-    JalLuiForm::fill(&done, &mut row[4..]);
+    fill_jal(&done, &mut row);
     Ok(row)
 }
 
@@ -142,7 +170,7 @@ fn auipc_row(alloc: Global, pc: u32, imm: u32) -> Result<[Fe; 23], OutOfMemory>
     row[0] = element(pc);
     row[1] = element(70000);
     row[2] = Fe::ONE;
-    AuipcForm::fill(&done, &mut row[3..]);
+    fill_auipc(&done, &mut row);
     Ok(row)
 }
 
@@ -160,7 +188,7 @@ fn jalr_row(
     row[0] = element(pc);
     row[1] = element(70000);
     row[2] = Fe::ONE;
-    JalrForm::fill(&done, &mut row[3..]);
+    fill_jalr(&done, &mut row);
     Ok(row)
 }
 
@@ -206,17 +234,17 @@ fn jumps(rt: HostRuntime) -> Result<(), Fail> {
 /// So it does the second word of a pc for AUIPC.
 #[test]
 fn second_words(rt: HostRuntime) -> Result<(), Fail> {
-    let second = [5, 16, 0, 120];
+    let second = [5u16, 16, 0, 120];
     let mut row = jal_row(rt.alloc(), opcode::JAL, 4096, true, 0, 8)?;
     let mut jalr = jalr_row(rt.alloc(), 4096, true, 0, 8)?;
     let mut auipc = auipc_row(rt.alloc(), 4096, 0)?;
     assert_eq!(rt; word_at(&row, 11), 4100);
     for i in 0..4 {
-        row[11 + i] = element(second[i]);
-        jalr[14 + i] = element(second[i]);
+        row[11 + i] = Fe::of_u16(second[i]);
+        jalr[14 + i] = Fe::of_u16(second[i]);
         let of_pc = if i == 0 { 1 } else { second[i] };
-        auipc[8 + i] = element(of_pc);
-        auipc[12 + i] = element(of_pc);
+        auipc[8 + i] = Fe::of_u16(of_pc);
+        auipc[12 + i] = Fe::of_u16(of_pc);
     }
     assert_eq!(rt; jal_said(rt.alloc(), &row)?.0, Refusal::Lookup(10));
     assert_eq!(rt; jalr_said(rt.alloc(), &jalr)?.0, Refusal::Lookup(16));

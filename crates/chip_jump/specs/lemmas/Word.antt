@@ -112,14 +112,14 @@ unfolding limbs_from
 looked_by n low = record { x0 = omega arith; x1 = omega arith; x2 = omega arith; x3 = omega (arith, low) }
 
 -- the limbs of a number below 2 ^ 30
-pub record Filled (n : ℕ) : Type 0 where
+pub record LowWord (n : ℕ) : Type 0 where
   pub looked : Looked 6 (limbs_from (limbs_of n))
   pub is : list_of (limbs_from (limbs_of n)) ≡ limbs_of n
   pub bytes : IsBytes (list_of (limbs_from (limbs_of n)))
   pub word : word_of_limbs (list_of (limbs_from (limbs_of n))) ≡ n
   pub number : number_by field (limbs_from (limbs_of n)) ≡ n
 
-pub filled : (n : ℕ) → n < 2 ^ 30 → Filled n
+pub filled : (n : ℕ) → n < 2 ^ 30 → LowWord n
 filled n low =
     let is = list_of-from (limbs_of n) refl in
     let word : word_of_limbs (list_of (limbs_from (limbs_of n))) ≡ n = ap word_of_limbs is ∙ word_of_limbs-limbs_of n (omega (arith, low)) in
