@@ -11,3 +11,5 @@ pub mod Counting
 pub mod Totals
 pub mod Ordering
 pub mod Handing
+pub mod Chain
+pub mod Only

@@ -46,7 +46,7 @@ module _ {R : Type 0} where
   only_ok true d x y e = (refl, cc)
   only_ok false d x y e = absurd cc
 
-  refusing_ok : {A : Type 0} (o : Option R) (x y : A) → refusing o x ≡ Ok y → (o ≡ None) × (x ≡ y)
+  pub refusing_ok : {A : Type 0} (o : Option R) (x y : A) → refusing o x ≡ Ok y → (o ≡ None) × (x ≡ y)
   refusing_ok None x y e = (refl, cc)
   refusing_ok (Some d) x y e = absurd cc
 

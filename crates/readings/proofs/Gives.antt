@@ -47,7 +47,7 @@ one_stops r next (suc i) more x s t vs e h f =
 
 -- ---- told or not
 
-gave_by : {R V W : Type 0} (r : Reading R V) (q : Reading R W) (v : V) (w : W)
+pub gave_by : {R V W : Type 0} (r : Reading R V) (q : Reading R W) (v : V) (w : W)
     → ((i j : ℕ) (bytes more : List ℕ) → r (rest_at i bytes) ≡ Ok (v, rest_at j more) → q (rest_at i bytes) ≡ Ok (w, rest_at j more)) → (i j : ℕ) (a b : Option (List ℕ))
     → GaveBy r v i j a b → GaveBy q w i j a b
 gave_by r q v w f i j None None g = tt
@@ -55,19 +55,19 @@ gave_by r q v w f i j None (Some more) g = absurd g
 gave_by r q v w f i j (Some bytes) None g = absurd g
 gave_by r q v w f i j (Some bytes) (Some more) g = f i j bytes more g
 
-stops_by : {R V W : Type 0} (r : Reading R V) (q : Reading R W) (e : R) → ((i : ℕ) (bytes : List ℕ) → r (rest_at i bytes) ≡ Err e → q (rest_at i bytes) ≡ Err e)
+pub stops_by : {R V W : Type 0} (r : Reading R V) (q : Reading R W) (e : R) → ((i : ℕ) (bytes : List ℕ) → r (rest_at i bytes) ≡ Err e → q (rest_at i bytes) ≡ Err e)
     → (i : ℕ) (a : Option (List ℕ)) → IfSome a (λ bytes. r (rest_at i bytes) ≡ Err e) → IfSome a (λ bytes. q (rest_at i bytes) ≡ Err e)
 stops_by r q e f i None h = tt
 stops_by r q e f i (Some bytes) h = f i bytes h
 
-refuses_by : {R V W : Type 0} (r : Reading R V) (q : Reading R W) (v : V) (e : R) (i j : ℕ)
+pub refuses_by : {R V W : Type 0} (r : Reading R V) (q : Reading R W) (v : V) (e : R) (i j : ℕ)
     → ((bytes more : List ℕ) → r (rest_at i bytes) ≡ Ok (v, rest_at j more) → q (rest_at i bytes) ≡ Err e) → (a b : Option (List ℕ)) → GaveBy r v i j a b
     → IfSome a (λ bytes. q (rest_at i bytes) ≡ Err e)
 refuses_by r q v e i j f None b g = tt
 refuses_by r q v e i j f (Some bytes) None g = absurd g
 refuses_by r q v e i j f (Some bytes) (Some more) g = f bytes more g
 
-then_by : {R V W X : Type 0} (r : Reading R V) (q : Reading R W) (z : Reading R X) (v : V) (w : W) (x : X) (i j k : ℕ)
+pub then_by : {R V W X : Type 0} (r : Reading R V) (q : Reading R W) (z : Reading R X) (v : V) (w : W) (x : X) (i j k : ℕ)
     → ((bytes mid more : List ℕ) → r (rest_at i bytes) ≡ Ok (v, rest_at j mid) → q (rest_at j mid) ≡ Ok (w, rest_at k more) → z (rest_at i bytes) ≡ Ok (x, rest_at k more))
     → (a b c : Option (List ℕ)) → GaveBy r v i j a b → GaveBy q w j k b c → GaveBy z x i k a c
 then_by r q z v w x i j k f None None None g h = tt
@@ -77,7 +77,7 @@ then_by r q z v w x i j k f (Some bytes) None c g h = absurd g
 then_by r q z v w x i j k f (Some bytes) (Some mid) None g h = absurd h
 then_by r q z v w x i j k f (Some bytes) (Some mid) (Some more) g h = f bytes mid more g h
 
-then_stops_by : {R V W X : Type 0} (r : Reading R V) (q : Reading R W) (z : Reading R X) (v : V) (e : R) (i j : ℕ)
+pub then_stops_by : {R V W X : Type 0} (r : Reading R V) (q : Reading R W) (z : Reading R X) (v : V) (e : R) (i j : ℕ)
     → ((bytes mid : List ℕ) → r (rest_at i bytes) ≡ Ok (v, rest_at j mid) → q (rest_at j mid) ≡ Err e → z (rest_at i bytes) ≡ Err e)
     → (a b : Option (List ℕ)) → GaveBy r v i j a b → IfSome b (λ bytes. q (rest_at j bytes) ≡ Err e) → IfSome a (λ bytes. z (rest_at i bytes) ≡ Err e)
 then_stops_by r q z v e i j f None b g h = tt

@@ -1,2 +1,4 @@
 pub mod Exacts
 pub mod Gives
+pub mod Same
+pub mod Listed
