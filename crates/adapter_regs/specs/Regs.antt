@@ -1,20 +1,16 @@
 -- The register form: its columns, constraints, accesses and program row over any ring, and its columns of a step.
-use Rattle.std.specs.Prelude.{ℕ, ◌+◌, Bool, cond, List, [], ◌∷◌, ◌++◌, slice_get, unwrap_or}
+use Rattle.std.specs.Prelude.{ℕ, ◌+◌, Bool, cond, List, [], ◌∷◌, ◌++◌}
 use Rattle.vm_isa.specs.declared.access.TimedAccess.{TimedAccess}
 use Rattle.vm_isa.specs.declared.record.StepRecord.{StepRecord}
 use Rattle.vm_isa.specs.Instr.{bit_of}
-use Rattle.vm_isa.specs.Spaces.{REGISTERS}
 use Rattle.vm_field.specs.declared.limbs.Limbs.{Limbs}
 use Rattle.vm_field.specs.Limbs.{limbs_by, limbs_from, list_of}
 use Rattle.air_core.specs.First.{gated_difference}
 use Rattle.air_core.specs.Ring.{Ring, cell}
 use Rattle.gadget_time.specs.declared.touch.Touch.{Touch}
 use Rattle.gadget_time.specs.declared.touch.Gap.{Gap}
-use Rattle.gadget_time.specs.Told.{gap_filled}
+pub use Rattle.gadget_time.specs.Access.{gap_by, register_touch, no_access, access_at, gap_of, gap_cells}
 use Rattle.adapter_regs.specs.declared.regs.Regs.{Regs}
-
-abbrev pub gap_by : {A : Type 0} → (ℕ → A) → ℕ → Gap A
-gap_by column at = record { before = column at; lo = column (at + 1); hi = column (at + 2) }
 
 abbrev pub limbs_of_zero : {A E : Type 0} → Ring A E → Limbs A
 limbs_of_zero o = record { x0 = o.number 0; x1 = o.number 0; x2 = o.number 0; x3 = o.number 0 }
@@ -45,11 +41,6 @@ regs_of o immediates own pc time rest =
       third = gap_by column (words + 12 + own + 6);
     }
 
--- an access of a register
-abbrev pub register_touch : {A E : Type 0} → Ring A E → A → ℕ → A → Limbs A → Limbs A → Gap A → Touch A
-register_touch o count slot number old new gap =
-    record { count = count; slot = o.number slot; space = o.number REGISTERS; pointer = o.times (o.number 4) number; old = old; new = new; gap = gap }
-
 unfoldable pub first_touch : {A E : Type 0} → Ring A E → Regs A → A → Touch A
 first_touch o r valid = register_touch o valid 0 r.rs1 r.left r.left r.first
 
@@ -77,12 +68,6 @@ regs_numbers o r = r.rd ∷ r.rs1 ∷ r.rs2 ∷ o.number 1 ∷ r.use_imm ∷ r.i
 
 -- The columns of a step.
 
-abbrev pub no_access : TimedAccess
-no_access = record { access = record { space = 0; pointer = 0; old = 0 ∷ 0 ∷ 0 ∷ 0 ∷ []; new = 0 ∷ 0 ∷ 0 ∷ 0 ∷ [] }; time = 0; before = 0 }
-
-abbrev pub access_at : List TimedAccess → ℕ → TimedAccess
-access_at accesses place = unwrap_or (slice_get accesses place) no_access
-
 unfoldable pub last_access : StepRecord → TimedAccess
 last_access done = cond done.instr.use_imm (access_at done.accesses 1) (access_at done.accesses 2)
 
@@ -91,9 +76,6 @@ right_filled done = cond done.instr.use_imm (limbs_from done.instr.imm) (limbs_f
 
 abbrev pub no_gap : Gap ℕ
 no_gap = record { before = 0; lo = 0; hi = 0 }
-
-abbrev pub gap_of : TimedAccess → Gap ℕ
-gap_of a = gap_filled a.time a.before
 
 unfoldable pub second_filled : StepRecord → Gap ℕ
 second_filled done = cond done.instr.use_imm no_gap (gap_of (access_at done.accesses 1))
@@ -119,9 +101,6 @@ regs_filled done = record {
 }
 
 -- the register columns of a row in their order, and those of the times
-abbrev pub gap_cells : Gap ℕ → List ℕ
-gap_cells g = g.before ∷ g.lo ∷ g.hi ∷ []
-
 unfoldable pub regs_cells : Bool → Regs ℕ → List ℕ
 regs_cells immediates r = r.rd ∷ r.rs1 ∷ r.rs2 ∷ (cond immediates (r.use_imm ∷ list_of r.imm) [] ++ (list_of r.left ++ (list_of r.right ++ list_of r.old)))
 

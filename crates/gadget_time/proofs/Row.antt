@@ -1,17 +1,14 @@
 -- A row by its parts: read, written, and the constraints and events of each.
-use Rattle.std.proofs.Common.{◌≡◌, ◌≢◌, ℕ, zero, suc, ◌+◌, ◌-◌, ◌*◌, ◌≤◌, ◌<◌, List, [], ◌∷◌, ◌++◌, length, map, replicate, take, drop, slice_index, Option, None, All, refl, sym, ap, ◌∙◌, arith, length-append}
+use Rattle.std.proofs.Common.{◌≡◌, ℕ, zero, suc, ◌+◌, ◌≤◌, ◌<◌, List, [], ◌∷◌, ◌++◌, length, map, replicate, take, slice_index, None, All, refl, sym, ap, ◌∙◌, arith, length-append}
 use Rattle.std.specs.Prelude.{slice_set}
-use Rattle.std.specs.List.{AllByRecursion}
 use Rattle.std.proofs.lemmas.List.{length-map}
 use Rattle.std.proofs.lemmas.List.Elements.{All-head, All-tail}
-use Rattle.air_core.specs.declared.event.Event.{Event}
-use Rattle.air_core.specs.Ring.{field, cells}
+use Rattle.air_core.specs.Ring.{field}
 use Rattle.air_core.specs.First.{first_from, or_else, bit}
 use Rattle.air_core.specs.Flags.{flag_constraints, sum_from, weighted_from, one_hot}
 use Rattle.air_core.specs.Path.{path_lines}
 use Rattle.air_core.specs.Sheet.{AllZero, counted}
 use Rattle.air_core.specs.FlagLaws.{sum_none}
-use Rattle.air_core.specs.lemmas.Cells.{cells_take}
 use Rattle.air_core.proofs.FirstLemmas.{first_from-part, first_from-none}
 use Rattle.gadget_time.specs.Told.{touch_constraint, touches_lines, told_lines}
 use Rattle.gadget_time.specs.FormLaws.{FormLaws}

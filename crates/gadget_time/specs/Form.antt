@@ -1,6 +1,6 @@
 -- An instruction table of any form: what its rows tell, and its sheet. The first columns are pc, the time
 -- and the flags; the others are the form's own.
-use Rattle.std.specs.Prelude.{◌≡◌, ℕ, suc, ◌+◌, Bool, nat_eq, List, [], ◌∷◌, ◌++◌, length, map, replicate, slice_index}
+use Rattle.std.specs.Prelude.{◌≡◌, ℕ, ◌+◌, Bool, nat_eq, List, ◌∷◌, ◌++◌, length, map, replicate, slice_index}
 use Rattle.std.specs.List.{list_any}
 use Rattle.vm_isa.specs.declared.record.StepRecord.{StepRecord}
 use Rattle.air_core.specs.declared.event.Event.{Event}

@@ -1,4 +1,5 @@
 pub mod Told
+pub mod Access
 pub mod Laws
 pub mod Form
 pub mod FormLaws

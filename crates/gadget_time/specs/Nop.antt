@@ -1,5 +1,5 @@
 -- The no-operation: one flag, and nothing but the step and its program row.
-use Rattle.std.specs.Prelude.{ℕ, true, List, [], ◌∷◌}
+use Rattle.std.specs.Prelude.{ℕ, true, [], ◌∷◌}
 use Rattle.vm_isa.specs.Opcodes.{NOP}
 use Rattle.air_core.specs.Formal.{formal}
 use Rattle.air_core.specs.Ring.{Ring, field}

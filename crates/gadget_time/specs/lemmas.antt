@@ -4,3 +4,5 @@ pub mod FormSound
 pub mod FormBounds
 pub mod FormComplete
 pub mod NopLaws
+pub mod Access
+pub mod Meant

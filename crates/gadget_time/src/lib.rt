@@ -2,6 +2,7 @@
 //! before it.
 #![tactic(auto)]
 
+mod access;
 mod chip;
 mod emission;
 mod form;
@@ -11,6 +12,7 @@ mod nop;
 mod tests;
 mod touch;
 
+pub use access::{access_at, block_touch, gap_at, gap_of, register_read, register_touch};
 pub use chip::{FormChip, set_flag};
 pub use emission::{emit_touch, emit_touches, touches_broken};
 pub use form::TableForm;

@@ -1,21 +1,16 @@
 -- The laws Fits, Buses and Quiet of every form.
-use Rattle.std.proofs.Common.{◌≡◌, ℕ, zero, suc, ◌+◌, ◌*◌, ◌<◌, ◌≤◌, Bool, true, false, ◌||◌, nat_eq, nat_le, List, [], ◌∷◌, ◌++◌, length, map, replicate, take, drop, refl, sym, ap, subst, ◌∙◌, arith, lit≤, slice_index}
-use Rattle.std.specs.List.{AllByRecursion, list_any}
-use Rattle.std.proofs.lemmas.Bool.{eqb-true}
+use Rattle.std.proofs.Common.{◌≡◌, ℕ, ◌+◌, ◌≤◌, true, List, length, replicate, take, drop, refl, arith, lit≤, slice_index}
 use Rattle.std.proofs.lemmas.Bool.Decides.{nat_tests}
 use Rattle.vm_isa.specs.Slots.{slots_of}
 use Rattle.air_core.specs.declared.event.Event.{Event}
-use Rattle.air_core.specs.Ring.{field, cells}
-use Rattle.air_core.specs.First.{bit}
-use Rattle.air_core.specs.Flags.{flag_constraints, sum_from}
-use Rattle.air_core.specs.Sheet.{Sheet, OwnsSome, AllZero, counted}
+use Rattle.air_core.specs.Ring.{field}
+use Rattle.air_core.specs.Sheet.{OwnsSome, AllZero}
 use Rattle.air_core.specs.Laws.{Fits, Owned, Buses, MayBus, Quiet, is_lookup}
 use Rattle.air_core.specs.ListLemmas.{all_append, all_weaker}
 use Rattle.air_core.specs.FlagLaws.{sum_none}
-use Rattle.air_core.specs.lemmas.OneHot.{zeros_hold, flags_zero, is_owned, of_owned}
+use Rattle.air_core.specs.lemmas.OneHot.{flags_zero, is_owned, of_owned}
 use Rattle.air_core.specs.lemmas.Cells.{cells_zero, cells_of_zeros, index_zeros}
-use Rattle.gadget_time.specs.Told.{touch_constraint}
-use Rattle.gadget_time.specs.Form.{Form, Columns, columns, columns_by, no_columns, told_by, form_sheet, form_constraints, owns_of}
+use Rattle.gadget_time.specs.Form.{Form, columns, columns_by, no_columns, told_by, form_sheet, form_constraints, owns_of}
 use Rattle.gadget_time.specs.FormLaws.{FormLaws, IsOther}
 use Rattle.gadget_time.specs.lemmas.ToldLaws.{told_uses, told_length}
 use Rattle.gadget_time.specs.lemmas.FormSound.{silent}

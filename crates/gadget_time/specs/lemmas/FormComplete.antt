@@ -1,23 +1,20 @@
 -- The law Complete of every form, and all its laws together.
-use Rattle.std.proofs.Common.{◌≡◌, ℕ, zero, suc, ◌+◌, ◌<◌, ◌≤◌, true, List, [], ◌∷◌, ◌++◌, length, map, slice_index, refl, sym, ap, subst, ◌∙◌, arith, length-append}
-use Rattle.std.specs.List.{AllByRecursion}
+use Rattle.std.proofs.Common.{◌≡◌, ℕ, ◌+◌, ◌<◌, ◌≤◌, true, [], ◌∷◌, length, slice_index, refl, sym, ap, subst, ◌∙◌, arith, length-append}
 use Rattle.vm_field.specs.Field.{modulus}
 use Rattle.vm_isa.specs.declared.record.StepRecord.{StepRecord}
 use Rattle.vm_isa.specs.Slots.{slots_of}
-use Rattle.vm_isa.specs.Instr.{numbers_of}
 use Rattle.vm_isa.specs.Means.{Fillable}
 use Rattle.air_core.specs.Ring.{field, cells}
 use Rattle.air_core.specs.Sheet.{AllZero, AllBelow}
-use Rattle.air_core.specs.Flags.{flag_constraints, sum_from, one_hot}
+use Rattle.air_core.specs.Flags.{flag_constraints}
 use Rattle.air_core.specs.Laws.{Complete}
 use Rattle.air_core.specs.ListLemmas.{all_append}
 use Rattle.air_core.specs.PathLaws.{time_fits}
 use Rattle.air_core.specs.lemmas.OneHot.{sum_one, length-one_hot, one_hot_holds, one_hot_below, of_owned}
 use Rattle.air_core.specs.lemmas.Cells.{cells_back, cells_back_last}
-use Rattle.gadget_time.specs.Told.{Told, touch_constraint, told_lines}
 use Rattle.gadget_time.specs.Laws.{TellsRecord, SaysRecord}
-use Rattle.gadget_time.specs.Form.{Form, Columns, columns, columns_by, valid_of, op_of, told_by, form_constraints, form_sheet, owns_of, filled_columns, row_of_columns}
-use Rattle.gadget_time.specs.FormLaws.{FormLaws, TellsDone, FormTable, AFormIsATable}
+use Rattle.gadget_time.specs.Form.{Form, Columns, columns, columns_by, op_of, told_by, form_constraints, form_sheet, owns_of, filled_columns, row_of_columns}
+use Rattle.gadget_time.specs.FormLaws.{FormLaws, TellsDone, AFormIsATable}
 use Rattle.gadget_time.specs.lemmas.Filled.{told_record}
 use Rattle.gadget_time.specs.lemmas.FormSound.{op_at, off, form_sound, form_timed, form_no_hint}
 use Rattle.gadget_time.specs.lemmas.FormBounds.{form_fits, form_buses, form_quiet}

@@ -1,14 +1,15 @@
 -- The laws Timed and Sound of every form, and that its rows are no hints.
-use Rattle.std.proofs.Common.{◌≡◌, ◌≢◌, ℕ, zero, suc, ◌+◌, ◌<◌, ◌≤◌, ◌⊎◌, inl, inr, false, true, nat_eq, List, [], ◌∷◌, length, map, slice_index, refl, sym, ap, subst, ◌∙◌, arith}
+use Rattle.std.proofs.Common.{◌≡◌, ℕ, ◌+◌, ◌<◌, ◌≤◌, ◌⊎◌, inl, inr, false, true, nat_eq, List, [], ◌∷◌, length, map, slice_index, refl, sym, ap, subst, ◌∙◌, arith}
 use Rattle.std.specs.List.{AllByRecursion}
 use Rattle.vm_isa.specs.Opcodes.{HINT, HINT_NEXT}
 use Rattle.vm_isa.specs.Instr.{IsInstruction, numbers_of}
-use Rattle.air_core.specs.Ring.{field, cells}
+use Rattle.air_core.specs.Ring.{field}
 use Rattle.air_core.specs.Sheet.{IsRow, RowHolds, AllZero, AllBelow, counted}
-use Rattle.air_core.specs.Flags.{OneHot, flag_constraints, weighted_from, one_hot}
+use Rattle.air_core.specs.Flags.{flag_constraints, weighted_from, one_hot}
 use Rattle.air_core.specs.Hint.{NoHint}
 use Rattle.air_core.specs.Lookups.{Good}
-use Rattle.air_core.specs.Step.{IsStep, TimedStep, SoundStep}
+use Rattle.vm_isa.specs.Words.{IsBytes}
+use Rattle.air_core.specs.Step.{IsStep, IsMeaning, TimedStep, SoundStep}
 use Rattle.air_core.specs.ListLemmas.{all_left, all_right, all_weaker, below_at}
 use Rattle.air_core.specs.FlagLaws.{flag_cases}
 use Rattle.air_core.specs.lemmas.OneHot.{set_at, weighted_one, is_owned, at_place}
@@ -118,9 +119,20 @@ module _ (f : Form) (hi : ℕ) (laws : FormLaws f) where
             })
       ]
 
-  pub form_sound : hi ≤ 13 → f.alone ≡ true → (row : List ℕ) → IsRow (form_sheet f hi) row → RowHolds (form_sheet f hi) row → Good (counted (told_lines field hi (told_by f (columns f row))))
-      → (counted (told_lines field hi (told_by f (columns f row))) ≡ []) ⊎ SoundStep (owns_of f) f.slots (16 + hi) (counted (told_lines field hi (told_by f (columns f row))))
-  form_sound top alone row is holds good =
+  -- a valid row: the place of its flag, its instruction, and that it is a step in time
+  pub record IsValid (c : Columns ℕ) : Type 0 where
+    pub place : ℕ
+    pub valid : valid_of field c ≡ 1
+    pub at : IsAt f place c
+    pub own : FormHolds f c
+    pub instruction : InstructionAt f place c
+    pub owned : owns_of f instruction.instr.op ≡ true
+    pub step : IsStep f.slots (16 + hi) instruction.instr c.time (f.parts.next c) (laws.tells place c at own instruction).accesses (counted (told_lines field hi (told_by f c)))
+
+  -- a row that holds, whose lookups are good, says nothing or is valid
+  pub form_row : hi ≤ 13 → (row : List ℕ) → IsRow (form_sheet f hi) row → RowHolds (form_sheet f hi) row → Good (counted (told_lines field hi (told_by f (columns f row))))
+      → (counted (told_lines field hi (told_by f (columns f row))) ≡ []) ⊎ IsValid (columns f row)
+  form_row top row is holds good =
       let c = columns f row in
       let p = parts f c holds in
       elim (set c (elements f row is.below) p.flags) [
@@ -128,38 +140,48 @@ module _ (f : Form) (hi : ℕ) (laws : FormLaws f) where
         | inr s ↦ inr (
             let i = instruction_at c s.place s.at s.valid good in
             let own : FormHolds f c = record { zero = p.own; good = good_others hi (told_by f c) good } in
-            let t = laws.tells s.place c s.at own i in
             record {
-              instr = i.instr;
-              time = c.time;
-              next = f.parts.next c;
-              accesses = t.accesses;
+              place = s.place;
+              valid = s.valid;
+              at = s.at;
+              own = own;
+              instruction = i;
               owned = owned c s.place s.at i;
-              step = step top c s.place s.at s.valid p good i t;
-              means = laws.means alone s.place c s.at own i;
+              step = step top c s.place s.at s.valid p good i (laws.tells s.place c s.at own i);
             })
       ]
 
+  timed_step : (c : Columns ℕ) → IsValid c → TimedStep (owns_of f) f.slots (16 + hi) (counted (told_lines field hi (told_by f c)))
+  timed_step c v = record { instr = v.instruction.instr; time = c.time; next = f.parts.next c; accesses = (laws.tells v.place c v.at v.own v.instruction).accesses; owned = v.owned; step = v.step }
+
+  -- the meaning of a valid row
+  abbrev pub RowMeans : (c : Columns ℕ) → IsValid c → Type 0
+  RowMeans c v = AllByRecursion (λ a. IsBytes a.old) (laws.tells v.place c v.at v.own v.instruction).accesses → IsMeaning v.instruction.instr (laws.tells v.place c v.at v.own v.instruction).accesses (f.parts.next c)
+
+  pub sound_step : (c : Columns ℕ) → (v : IsValid c) → RowMeans c v → SoundStep (owns_of f) f.slots (16 + hi) (counted (told_lines field hi (told_by f c)))
+  sound_step c v means = record {
+    instr = v.instruction.instr;
+    time = c.time;
+    next = f.parts.next c;
+    accesses = (laws.tells v.place c v.at v.own v.instruction).accesses;
+    owned = v.owned;
+    step = v.step;
+    means = means;
+  }
+
+  pub form_sound : hi ≤ 13 → f.alone ≡ true → (row : List ℕ) → IsRow (form_sheet f hi) row → RowHolds (form_sheet f hi) row → Good (counted (told_lines field hi (told_by f (columns f row))))
+      → (counted (told_lines field hi (told_by f (columns f row))) ≡ []) ⊎ SoundStep (owns_of f) f.slots (16 + hi) (counted (told_lines field hi (told_by f (columns f row))))
+  form_sound top alone row is holds good = elim (form_row top row is holds good) [
+    | inl none ↦ inl none
+    | inr v ↦ inr (sound_step (columns f row) v (laws.means alone v.place (columns f row) v.at v.own v.instruction))
+  ]
+
   pub form_timed : hi ≤ 13 → (row : List ℕ) → IsRow (form_sheet f hi) row → RowHolds (form_sheet f hi) row → Good (counted (told_lines field hi (told_by f (columns f row))))
       → (counted (told_lines field hi (told_by f (columns f row))) ≡ []) ⊎ TimedStep (owns_of f) f.slots (16 + hi) (counted (told_lines field hi (told_by f (columns f row))))
-  form_timed top row is holds good =
-      let c = columns f row in
-      let p = parts f c holds in
-      elim (set c (elements f row is.below) p.flags) [
-        | inl none ↦ inl none
-        | inr s ↦ inr (
-            let i = instruction_at c s.place s.at s.valid good in
-            let own : FormHolds f c = record { zero = p.own; good = good_others hi (told_by f c) good } in
-            let t = laws.tells s.place c s.at own i in
-            record {
-              instr = i.instr;
-              time = c.time;
-              next = f.parts.next c;
-              accesses = t.accesses;
-              owned = owned c s.place s.at i;
-              step = step top c s.place s.at s.valid p good i t;
-            })
-      ]
+  form_timed top row is holds good = elim (form_row top row is holds good) [
+    | inl none ↦ inl none
+    | inr v ↦ inr (timed_step (columns f row) v)
+  ]
 
   none_hint : NoHint []
   none_hint = record { hint = refl; next = refl }

@@ -1,7 +1,5 @@
 -- The no-operation is a form with its laws.
-use Rattle.std.proofs.Common.{◌≡◌, ℕ, zero, suc, ◌+◌, ◌^◌, ◌<◌, ◌≤◌, Bool, true, false, ◌||◌, nat_eq, List, [], ◌∷◌, length, slice_index, refl, sym, ap, ◌∙◌, arith, lit<, lit≤}
-use Rattle.std.specs.List.{AllByRecursion, list_any}
-use Rattle.std.proofs.lemmas.Bool.{eqb-true}
+use Rattle.std.proofs.Common.{◌≡◌, ℕ, zero, suc, ◌+◌, ◌<◌, ◌≤◌, true, [], ◌∷◌, slice_index, refl, sym, ap, ◌∙◌, arith, lit<, lit≤}
 use Rattle.vm_field.specs.Field.{field_add}
 use Rattle.vm_isa.specs.declared.instr.VmInstr.{VmInstr}
 use Rattle.vm_isa.specs.declared.record.StepRecord.{StepRecord}
@@ -14,7 +12,7 @@ use Rattle.air_core.specs.Laws.{Fits, Buses, Sound}
 use Rattle.air_core.specs.Step.{IsMeaning}
 use Rattle.air_core.specs.lemmas.OneHot.{of_owned}
 use Rattle.gadget_time.specs.Form.{Columns, owns_of}
-use Rattle.gadget_time.specs.FormLaws.{FormLaws, IsAt, FormHolds, InstructionAt, NoHints, TellsDone}
+use Rattle.gadget_time.specs.FormLaws.{FormLaws, IsAt, InstructionAt, NoHints, TellsDone}
 use Rattle.gadget_time.specs.Nop.{nop_form, nop_sheet}
 use Rattle.gadget_time.specs.lemmas.FormBounds.{form_buses}
 use Rattle.gadget_time.specs.lemmas.FormComplete.{form_table}

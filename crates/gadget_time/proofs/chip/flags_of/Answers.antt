@@ -1,4 +1,4 @@
-use Rattle.std.proofs.Common.{◌≡◌, ◌+◌, ◌-◌, arith, length, take, drop, ap, sym, ◌∙◌}
+use Rattle.std.proofs.Common.{◌≡◌, ◌-◌, arith, length, take, drop, ap, sym, ◌∙◌}
 use Rattle.air_core.specs.lemmas.Cells.{cells_take}
 use Rattle.gadget_time.specs.Form.{columns_by}
 use Rattle.gadget_time.proofs.chip.flags_of.Goals as goal

@@ -1,5 +1,4 @@
-use Rattle.std.proofs.Common.{[], ◌∷◌, take, drop}
-use Rattle.air_core.specs.Sheet.{received, sent}
+use Rattle.std.proofs.Common.{take, drop}
 use Rattle.gadget_time.specs.Told.{touch_lines}
 use Rattle.air_core.proofs.Counted.{on_err_anyway, on_err_map}
 use Rattle.air_core.proofs.Handing.{all_all, some_at}

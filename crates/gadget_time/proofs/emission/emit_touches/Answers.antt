@@ -1,4 +1,4 @@
-use Rattle.std.proofs.Common.{rules, arith, ◌≡◌, ◌≤◌, ◌<◌, ◌+◌, ◌*◌, length, take, drop, ◌++◌, sym, subst, ap}
+use Rattle.std.proofs.Common.{rules, arith, ◌+◌, take, drop, ◌++◌, sym, subst}
 use Rattle.air_core.specs.Sheet.{counted}
 use Rattle.air_core.specs.Sink.{HandedSome}
 use Rattle.air_core.specs.ListLemmas.{counted_length}

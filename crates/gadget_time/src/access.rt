@@ -1,11 +1,10 @@
-//! Accesses of registers, and the next pc of a row that may jump.
+//! Accesses of registers and of blocks, and their columns in the row of a record.
 
 ghost use Rattle.std.specs.Prelude.{◌≡◌, ℕ, ◌+◌, ◌≤◌, length, slice_index};
 ghost use Rattle.air_core.specs.Ring.{field};
-ghost use Rattle.adapter_regs.specs.Next.{next_by};
-ghost use Rattle.adapter_regs.specs.Regs.{access_at, gap_by, gap_of, register_touch};
+ghost use Rattle.gadget_time.specs.Access.{access_at, block_touch, gap_by, gap_of, register_touch};
 
-use gadget_time::{Gap, Touch, gap_between};
+use crate::{Gap, Touch, gap_between};
 use vm_field::{Fe, Limbs};
 use vm_isa::{Access, AccessList, TimedAccess, space};
 
@@ -29,6 +28,29 @@ pub fn register_read(count: Fe, slot: u16, number: Fe, word: &Limbs, gap: Gap) -
     ensures { result ≡ register_touch field count slot number word.now word.now gap }
 {
     register_touch(count, slot, number, *word, *word, gap)
+}
+
+/// The access of a block of a space, `slot` after the row's time.
+pub fn block_touch(
+    count: Fe,
+    slot: u16,
+    space: u8,
+    pointer: Fe,
+    old: Limbs,
+    new: Limbs,
+    gap: Gap,
+) -> Touch
+    ensures { result ≡ block_touch field count slot space pointer old new gap }
+{
+    Touch {
+        count,
+        slot: Fe::of_u16(slot),
+        space: Fe::of_u16(space as u16),
+        pointer,
+        old,
+        new,
+        gap,
+    }
 }
 
 /// The columns of an access's time.
@@ -67,13 +89,4 @@ pub fn access_at(accesses: &AccessList, place: u32) -> TimedAccess
             before: 0,
         },
     }
-}
-
-/// pc + 4 + taken * (target - pc - 4): the target where `taken` is 1, and pc + 4 where it is 0.
-#[tactic(auto, unfolding(crate::specs::Next::next_by))]
-pub fn next_by(pc: Fe, target: Fe, taken: Fe) -> Fe
-    ensures { result ≡ next_by field pc target taken }
-{
-    let four = Fe::of_u16(4);
-    pc.add(four).add(taken.mul(target.sub(pc).sub(four)))
 }
