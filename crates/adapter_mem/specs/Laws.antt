@@ -1,5 +1,5 @@
 -- What PTR says.
-use Rattle.std.specs.Prelude.{◌≡◌, ◌≢◌, ℕ, ◌+◌, ◌-◌, ◌*◌, ◌/◌, ◌%◌, ◌^◌, ◌<◌, ◌≤◌, ◌↔◌}
+use Rattle.std.specs.Prelude.{◌≡◌, ℕ, ◌+◌, ◌-◌, ◌*◌, ◌%◌, ◌^◌, ◌<◌, ◌≤◌, ◌↔◌}
 use Rattle.vm_field.specs.Field.{modulus, field_mul}
 use Rattle.vm_field.specs.declared.limbs.Limbs.{Limbs}
 use Rattle.vm_field.specs.Limbs.{list_of}

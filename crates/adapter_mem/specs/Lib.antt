@@ -1,2 +1,6 @@
 pub mod Pointer
 pub mod Laws
+pub mod Forms
+pub mod Memory
+pub mod MemoryLaws
+pub mod lemmas

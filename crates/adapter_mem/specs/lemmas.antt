@@ -1,0 +1,5 @@
+pub mod PointerLaws
+pub mod Forms
+pub mod Address
+pub mod Form
+pub mod Writes
