@@ -1,0 +1,3 @@
+pub mod Reveal
+pub mod Hint
+pub mod lemmas

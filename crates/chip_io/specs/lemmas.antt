@@ -1,0 +1,2 @@
+pub mod Reveal
+pub mod Hint
