@@ -1,0 +1,17 @@
+pub mod Runs
+pub mod Numbers
+pub mod Means
+pub mod Steps
+pub mod Made
+pub mod Filled
+pub mod Record
+pub mod Back
+pub mod Below
+pub mod MainLaws
+pub mod RoundLinks
+pub mod RoundTotals
+pub mod Bus
+pub mod ShaSound
+pub mod Stages
+pub mod ShaLaws
+pub mod ShaComplete

@@ -1,0 +1,4 @@
+pub mod RoundLaw
+pub mod RoundReads
+pub mod RoundFilled
+pub mod RoundTable

@@ -1,0 +1,7 @@
+use Rattle.air_core.specs.Ring.{field}
+use Rattle.std.proofs.Common.{◌≡◌, ℕ, ◌<◌, get_or, length}
+use Rattle.gadget_bits.specs.Bits.{xor3_of, turned, shifted}
+use Rattle.gadget_bits.proofs.bits.small_sigma_columns.Given as goal
+
+abbrev pub invariant-loop-i : goal.invariant-loop-i
+invariant-loop-i l = record { long : length l.all ≡ 32; are : (k : ℕ) → k < l.i → get_or l.all k 0 ≡ xor3_of field (turned field l.bits l.j k) (turned field l.bits l.k k) (shifted field l.bits l.l k) }
