@@ -6,3 +6,4 @@ pub mod Overlaps
 pub mod Searches
 pub mod Accepted
 pub mod Images
+pub mod CopyLemmas

@@ -6,6 +6,7 @@ ghost use Rattle.std.specs.List.Sorted.{IsNonDecreasingBy};
 ghost use Rattle.elf_image.specs.Elf.{load_headers};
 ghost use Rattle.elf_image.specs.Image.{HasImage, IsRefused, NoneBefore, place};
 
+mod copies;
 mod headers;
 mod image;
 mod laws;

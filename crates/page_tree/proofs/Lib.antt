@@ -10,6 +10,5 @@ pub mod PageLemmas
 pub mod SizeLemmas
 pub mod KeptLemmas
 pub mod PlaceLemmas
-pub mod CopyLemmas
 pub mod StartLemmas
 pub mod BlockLemmas

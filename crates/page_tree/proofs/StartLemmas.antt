@@ -14,7 +14,8 @@ use Rattle.page_tree.specs.Tree.{Leaves, IsBelow}
 use Rattle.page_tree.specs.Kept.{shown, either_half, HasShape, Stands}
 use Rattle.page_tree.specs.declared.subtree.Subtree.{Subtree, Pair'}
 use Rattle.page_tree.specs.declared.subtree.Subtree.TheVariants.{Zeros, Leaf}
-use Rattle.page_tree.specs.Loading.{given_or, laid_over, AreLoaded, LaysOver}
+use Rattle.elf_image.specs.Copies.{given_or}
+use Rattle.page_tree.specs.Loading.{laid_over, AreLoaded, LaysOver}
 use Rattle.page_tree.specs.Start.{memory_leaf, start_map}
 use Rattle.page_tree.proofs.TreeLemmas.{below_leaf, below_left, below_right}
 use Rattle.page_tree.proofs.KeptLemmas.{shown-zeros, half-left, half-right, below-lower, below-upper}

@@ -1,14 +1,10 @@
 -- How the tree at the start is put together: load by load, the last one first.
-use Rattle.std.specs.Prelude.{◌≡◌, ℕ, ◌+◌, ◌-◌, ◌&&◌, List, ◌∷◌, length, map, slice_index, nat_le, nat_lt, if◌then◌else◌}
+use Rattle.std.specs.Prelude.{◌≡◌, ℕ, ◌+◌, List, ◌∷◌, map, slice_index}
 use Rattle.std.specs.List.{range_with_len}
+use Rattle.elf_image.specs.Copies.{given_or}
 use Rattle.elf_image.specs.Loaded.{Load}
 use Rattle.page_tree.specs.Tree.{Leaves, IsBelow}
 use Rattle.page_tree.specs.Start.{start_map}
-
--- a byte that stands from an address on, or another
-abbrev pub given_or : ℕ → List ℕ → ℕ → ℕ → ℕ
-given_or from bytes address other =
-    if nat_le from address && nat_lt address (from + length bytes) then slice_index bytes (address - from) else other
 
 -- the 64 bytes from an address on, where these bytes stand over the old ones
 unfoldable pub laid_over : ℕ → List ℕ → ℕ → List ℕ → List ℕ

@@ -88,6 +88,23 @@ fn sibling_at(siblings: &[Digest], taken: usize) -> Digest
     }
 }
 
+impl Roots {
+    // Those of a node that is the next sibling, over old and new bytes alike.
+    fn of_sibling(siblings: &[Digest], taken: usize) -> Roots
+        requires { taken ≤ 2 ^ 25 }
+        ensures taken { result.taken ≡ taken + 1 }
+        ensures old { result.old ≡ slice_index_or siblings.now taken (replicate 32 0) }
+        ensures new { result.new ≡ slice_index_or siblings.now taken (replicate 32 0) }
+    {
+        let digest = sibling_at(siblings, taken);
+        Roots {
+            old: digest,
+            new: digest,
+            taken: taken + 1,
+        }
+    }
+}
+
 // The walk below a node, over old and over new bytes at once.
 fn roots_below(
     pages: &[Touched],
@@ -107,12 +124,7 @@ fn roots_below(
     ensures new { result.new ≡ (walk (labels_of pages.now) (new_bytes_at pages.now) top.level top.index (drop taken siblings.now)).digest }
 {
     if places.from == places.to {
-        let digest = sibling_at(siblings, taken);
-        return Roots {
-            old: digest,
-            new: digest,
-            taken: taken + 1,
-        };
+        return Roots::of_sibling(siblings, taken);
     }
     if top.level == 0 {
         let page = &pages[places.from];

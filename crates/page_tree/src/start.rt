@@ -18,14 +18,7 @@ fn lay_over(bytes: &mut [u8; 64], start: usize, load: &LoadPart<'_>)
     requires { start ≤ 2 ^ 29 }
     ensures { bytes.new ≡ laid_over load.now.address load.now.bytes.now start bytes.old }
 {
-    let address = load.address as usize;
-    let first = address.max(start);
-    let end = (address + load.bytes.len()).min(start + 64);
-    if first < end {
-        bytes[first - start..end - start].copy_from_slice(
-            &load.bytes[first - address..end - address],
-        );
-    }
+    load.copy_over(bytes, start);
 }
 
 impl Subtree {

@@ -97,9 +97,7 @@ impl Subtree {
         ensures err { OnErr result (self.new ≡ self.old) }
     {
         match self {
-            Subtree::Zeros => {
-                *self = way(alloc, zeros, top, label, page)?;
-            }
+            Subtree::Zeros => *self = way(alloc, zeros, top, label, page)?,
             Subtree::Leaf(leaf) => {
                 **leaf = Leaf {
                     bytes: *page,

@@ -1,7 +1,8 @@
 -- Memory as the byte at each address. A number of several bytes has its lowest byte first (RISC-V
 -- Unprivileged ISA 20191213, section 1.4).
 use Rattle.byteorder.specs.Endian.{little_bytes}
-use Rattle.std.specs.Prelude.{ℕ, zero, suc, ◌+◌, ◌-◌, ◌*◌, List, [], ◌∷◌, length, slice_index, ◌&&◌, nat_le, nat_lt, if◌then◌else◌}
+use Rattle.elf_image.specs.Copies.{given_or}
+use Rattle.std.specs.Prelude.{ℕ, zero, suc, ◌+◌, ◌*◌, List, [], ◌∷◌}
 
 -- the number in this many bytes from an address on
 abbrev pub number_at : (ℕ → ℕ) → ℕ → ℕ → ℕ
@@ -11,11 +12,6 @@ number_at memory address (suc count) = memory address + 256 * number_at memory (
 -- the four bytes from an address on
 abbrev pub four_at : (ℕ → ℕ) → ℕ → List ℕ
 four_at memory address = memory address ∷ memory (address + 1) ∷ memory (address + 2) ∷ memory (address + 3) ∷ []
-
--- a byte that stands from an address on, or another
-abbrev pub given_or : ℕ → List ℕ → ℕ → ℕ → ℕ
-given_or from bytes address other =
-    if nat_le from address && nat_lt address (from + length bytes) then slice_index bytes (address - from) else other
 
 -- bytes stand from an address on, and the others stay
 abbrev pub with_bytes : (ℕ → ℕ) → ℕ → List ℕ → ℕ → ℕ

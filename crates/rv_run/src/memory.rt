@@ -1,10 +1,9 @@
 // The memory of the machine: the image, and over it the pages that were stored to.
-ghost use Rattle.rv_run.specs.Memory.{given_or};
 ghost use Rattle.std.specs.Prelude.{◌≡◌, ◌<◌, ◌≤◌, ◌+◌, ◌*◌, ◌%◌, ◌^◌, ℕ, length, vec_len, IfOk, OnOk, OnErr, slice_index};
 
 use crate::OutOfMemory;
 use crate::code::Code;
-use elf_image::{Image, LoadPart};
+use elf_image::Image;
 use rv_decode::{Instr, StoreKind};
 use std::alloc::{AllocError, Global};
 
@@ -249,26 +248,11 @@ impl<'a> Memory<'a> {
         while left > 0 {
             left -= 1;
             if let Some(load) = image.load(left) {
-                copy_part(&mut bytes, start, &load);
+                load.copy_over(&mut bytes, start);
             }
         }
         Ok(Page {
             bytes: Box::new(self.alloc, bytes)?,
         })
-    }
-}
-
-// Copies what a load gives of a page's bytes, which begin at this address.
-fn copy_part(bytes: &mut [u8; 4096], start: usize, load: &LoadPart<'_>)
-    requires { start ≤ 2 ^ 29 }
-    ensures { (k : ℕ) → k < 4096 → slice_index bytes.new k ≡ given_or load.now.address load.now.bytes.now (start + k) (slice_index bytes.old k) }
-{
-    let address = load.address as usize;
-    let first = address.max(start);
-    let end = (address + load.bytes.len()).min(start + PAGE_SIZE);
-    if first < end {
-        bytes[first - start..end - start].copy_from_slice(
-            &load.bytes[first - address..end - address],
-        );
     }
 }

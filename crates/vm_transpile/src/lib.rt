@@ -6,8 +6,6 @@ mod operation;
 mod program;
 mod row;
 #[cfg(test)]
-mod side_by_side;
-#[cfg(test)]
 mod tests;
 mod text;
 

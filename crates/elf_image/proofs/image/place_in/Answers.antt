@@ -1,4 +1,4 @@
-use Rattle.std.proofs.Common.{◌≡◌, ◌<◌, ◌^◌, length, get_or, nat_cmp, Equal, arith, rules, sym}
+use Rattle.std.proofs.Common.{◌≡◌, ◌<◌, ◌^◌, length, get_or, nat_cmp, Equal, arith, rules}
 use Rattle.std.proofs.lemmas.List.Sorted.{answers_always}
 use Rattle.std.proofs.lemmas.Option.{slice_get-get_or}
 use Rattle.elf_image.specs.declared.TextWord.{TextWord}

@@ -1,15 +1,12 @@
-use Rattle.std.proofs.Common.{◌≡◌, ◌-◌, take, drop, rules}
-use Rattle.page_tree.proofs.CopyLemmas.{laid_over-copied, laid_over-none}
+use Rattle.std.proofs.Common.{get_or, sym, subst, ◌<◌, ◌+◌, ◌∙◌, ℕ}
+use Rattle.std.proofs.lemmas.List.FromFn.{fill_by_all}
+use Rattle.elf_image.specs.Copies.{given_or}
+use Rattle.page_tree.specs.Loading.{laid_over}
 use Rattle.page_tree.proofs.start.lay_over.Goals as goal
 
-pub returns-then-first-end : goal.returns-then-first-end
-returns-then-first-end c =
-    let first = c.max-first.result in
-    let end = c.min-end.result in
-    let load = c.args.load.now in
-    let copied : c.copy_from_slice.new.self ≡ take (end - load.address - (first - load.address)) (drop (first - load.address) load.bytes.now) = search rules in
-    rw copied (laid_over-copied c.args.bytes.now load.bytes.now load.address c.args.start first end c.told-bytes c.max-first.ensures c.min-end.ensures c.if-first-end.true)
-
-pub returns-else-first-end : goal.returns-else-first-end
-returns-else-first-end c =
-    laid_over-none c.args.bytes.now c.args.load.now.bytes.now c.args.load.now.address c.args.start c.max-first.result c.min-end.result c.told-bytes c.max-first.ensures c.min-end.ensures c.if-first-end.false
+pub returns : goal.returns
+unfolding laid_over
+returns c =
+    fill_by_all (λ k. given_or c.args.load.now.address c.args.load.now.bytes.now (c.args.start + k) (get_or c.args.bytes.now k 0)) c.copy_over.new.bytes 64 0
+    (c.copy_over.auto.bytes ∙ c.told-bytes)
+    (λ k h. c.copy_over.ensures k (subst (λ (n : ℕ). k < n) (sym c.told-bytes) h))

@@ -1,5 +1,5 @@
-use Rattle.std.proofs.Common.{◌≡◌, ◌+◌, ◌*◌, ◌-◌, length, sym, ◌∙◌, arith}
-use Rattle.std.proofs.lemmas.List.{get_or-replicate}
+use Rattle.std.proofs.Common.{◌≡◌, ℕ, ◌+◌, ◌*◌, ◌-◌, length, sym, ◌∙◌, arith}
+use Rattle.std.proofs.lemmas.List.{get_or-replicate, length-replicate}
 use Rattle.rv_run.proofs.PageLemmas.{none_left, page_more, no_part}
 use Rattle.rv_run.proofs.memory.Memory.copied_page.Goals as goal
 
@@ -7,7 +7,7 @@ pub loop-left-init : goal.loop-left-init
 loop-left-init c =
     let loads = c.args.self.now.code.image.now.loads in
     let long : c.loads_len-left.result ≡ length loads = rw c.image-image.ensures at c.loads_len-left.ensures in
-    record { within = omega (arith, long); copied = λ k h. get_or-replicate 4096 k 0 0 h ∙ sym (none_left loads c.loads_len-left.result (4096 * c.args.number + k) (omega (arith, long))) }
+    record { within = omega (arith, long); long = length-replicate {A = ℕ} 4096 0; copied = λ k h. get_or-replicate 4096 k 0 0 h ∙ sym (none_left loads c.loads_len-left.result (4096 * c.args.number + k) (omega (arith, long))) }
 
 pub loop-left-preserved-in-Some : goal.loop-left-preserved-in-Some
 loop-left-preserved-in-Some c =
@@ -15,7 +15,8 @@ loop-left-preserved-in-Some c =
     let part = rw c.image-image.ensures at c.in-Some.ensures in
     record {
       within = omega (arith, c.loop-left.invariant.within);
-      copied = λ k h. page_more loads c.loop-left.left (c.args.number * 4096) (4096 * c.args.number) k _ _ c.in-Some.load (omega arith) (omega arith) part (c.copy_part.ensures k h) (c.loop-left.invariant.copied k h);
+      long = c.copy_over.auto.bytes ∙ c.loop-left.invariant.long;
+      copied = λ k h. page_more loads c.loop-left.left (c.args.number * 4096) (4096 * c.args.number) k _ _ c.in-Some.load (omega arith) (omega arith) part (c.copy_over.ensures k (omega (arith, h, c.loop-left.invariant.long))) (c.loop-left.invariant.copied k h);
     }
 
 pub loop-left-preserved : goal.loop-left-preserved

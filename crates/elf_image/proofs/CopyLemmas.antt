@@ -1,25 +1,24 @@
--- Bytes that a load gives of 64, copied to their places.
-use Rattle.std.proofs.Common.{◌≡◌, ℕ, max, min, length-drop, ◌+◌, ◌-◌, ◌<◌, ◌≤◌, true, false, List, ◌++◌, length, get_or, take, drop, refl, sym, ap, ◌∙◌, arith, length-take, ⊎_elim, length-append}
+-- Bytes that were copied to their places.
+use Rattle.std.proofs.Common.{◌≡◌, ℕ, max, min, length-drop, ◌+◌, ◌-◌, ◌<◌, ◌≤◌, true, false, List, ◌++◌, length, get_or, take, drop, refl, sym, ap, ◌∙◌, arith, length-take, ⊎_elim}
 use Rattle.std.specs.Prelude.{nat_le, nat_lt}
 use Rattle.std.proofs.lemmas.Bool.{cases_lt, le-ltb, le-leb, lt-ltb}
 use Rattle.std.proofs.lemmas.Bool.Decides.{nat_tests}
 use Rattle.std.proofs.lemmas.List.{get_or_append_left, get_or-append_right, get_or-take, get_or-drop}
-use Rattle.std.proofs.lemmas.List.FromFn.{fill_by_all}
 use borrow.Rule.Slice.PartMut.{put_mid}
-use Rattle.page_tree.specs.Loading.{given_or, laid_over}
+use Rattle.elf_image.specs.Copies.{given_or}
 
-put_below : (a k : ℕ) (xs ys : List ℕ) (j : ℕ) → a ≤ length xs → j < a → get_or (put_mid a k xs ys) j 0 ≡ get_or xs j 0
+pub put_below : (a k : ℕ) (xs ys : List ℕ) (j : ℕ) → a ≤ length xs → j < a → get_or (put_mid a k xs ys) j 0 ≡ get_or xs j 0
 put_below a k xs ys j h low =
     let short : j < length (take a xs) = omega (arith, length-take a xs) in
     get_or_append_left (take a xs) (ys ++ drop k (drop a xs)) 0 j short ∙ get_or-take a xs j 0 low
 
-put_inside : (a k : ℕ) (xs ys : List ℕ) (j : ℕ) → a ≤ length xs → a ≤ j → j < a + length ys → get_or (put_mid a k xs ys) j 0 ≡ get_or ys (j - a) 0
+pub put_inside : (a k : ℕ) (xs ys : List ℕ) (j : ℕ) → a ≤ length xs → a ≤ j → j < a + length ys → get_or (put_mid a k xs ys) j 0 ≡ get_or ys (j - a) 0
 put_inside a k xs ys j h low high =
     let long : length (take a xs) ≡ a = omega (arith, length-take a xs) in
     get_or-append_right (take a xs) (ys ++ drop k (drop a xs)) a j 0 long low
     ∙ get_or_append_left ys (drop k (drop a xs)) 0 (j - a) (omega arith)
 
-put_above : (a k : ℕ) (xs ys : List ℕ) (j : ℕ) → a + k ≤ length xs → k ≡ length ys → a + k ≤ j → get_or (put_mid a k xs ys) j 0 ≡ get_or xs j 0
+pub put_above : (a k : ℕ) (xs ys : List ℕ) (j : ℕ) → a + k ≤ length xs → k ≡ length ys → a + k ≤ j → get_or (put_mid a k xs ys) j 0 ≡ get_or xs j 0
 put_above a k xs ys j h same high =
     let long : length (take a xs) ≡ a = omega (arith, length-take a xs) in
     let place : a + (k + (j - a - k)) ≡ j = omega arith in
@@ -27,15 +26,15 @@ put_above a k xs ys j h same high =
     ∙ get_or-append_right ys (drop k (drop a xs)) k (j - a) 0 (sym same) (omega arith)
     ∙ get_or-drop k (drop a xs) (j - a - k) 0 ∙ get_or-drop a xs (k + (j - a - k)) 0 ∙ ap (λ i. get_or xs i 0) place
 
--- a byte after what a load gives was copied
-byte_copied : (old bytes : List ℕ) (address start first end k : ℕ) → length old ≡ 64 → first ≡ max address start → end ≡ min (address + length bytes) (start + 64) → first < end → k < 64
+-- a byte after what bytes give of these was copied
+pub byte_copied : (old bytes : List ℕ) (address start first end k : ℕ) → first ≡ max address start → end ≡ min (address + length bytes) (start + length old) → first < end → k < length old
     → get_or (put_mid (first - start) (end - start - (first - start)) old (take (end - address - (first - address)) (drop (first - address) bytes))) k 0 ≡ given_or address bytes (start + k) (get_or old k 0)
-byte_copied old bytes address start first end k size begins ends some within =
+byte_copied old bytes address start first end k begins ends some within =
     let xs : List ℕ = take (end - address - (first - address)) (drop (first - address) bytes) in
     let m : ℕ = end - start - (first - start) in
     let low : address ≤ first = omega arith in
     let least : start ≤ first = omega arith in
-    let most : end ≤ start + 64 = omega arith in
+    let most : end ≤ start + length old = omega arith in
     let given : end ≤ address + length bytes = omega arith in
     let dropped : length (drop (first - address) bytes) ≡ length bytes - (first - address) = length-drop (first - address) bytes in
     let long : length xs ≡ m = length-take (end - address - (first - address)) (drop (first - address) bytes) ∙ omega (arith, dropped) in
@@ -58,29 +57,3 @@ byte_copied old bytes address start first end k size begins ends some within =
     put_above (first - start) m old xs k (omega (arith, long)) (sym long) (omega (arith, long)) ∙ rw (on, le-ltb (start + k) (address + length bytes) past) refl)
     (cases_lt k (first - start + length xs)))
     (cases_lt k (first - start))
-
-length-put : (a k : ℕ) (xs ys : List ℕ) → a + k ≤ length xs → k ≡ length ys → length (put_mid a k xs ys) ≡ length xs
-length-put a k xs ys h same =
-    length-append (take a xs) (ys ++ drop k (drop a xs)) ∙ omega (arith, length-take a xs, length-append ys (drop k (drop a xs)), length-drop k (drop a xs), length-drop a xs)
-
--- all 64 of them
-pub laid_over-copied : (old bytes : List ℕ) (address start first end : ℕ) → length old ≡ 64 → first ≡ max address start → end ≡ min (address + length bytes) (start + 64) → first < end
-    → put_mid (first - start) (end - start - (first - start)) old (take (end - address - (first - address)) (drop (first - address) bytes)) ≡ laid_over address bytes start old
-unfolding laid_over
-laid_over-copied old bytes address start first end size begins ends some =
-    let xs : List ℕ = take (end - address - (first - address)) (drop (first - address) bytes) in
-    let m : ℕ = end - start - (first - start) in
-    let long : m ≡ length xs = sym (length-take (end - address - (first - address)) (drop (first - address) bytes) ∙ omega (arith, length-drop (first - address) bytes)) in
-    fill_by_all (λ k. given_or address bytes (start + k) (get_or old k 0)) (put_mid (first - start) m old xs) 64 0
-    (length-put (first - start) m old xs (omega arith) long ∙ size)
-    (λ k h. byte_copied old bytes address start first end k size begins ends some h)
-
--- where it gives none
-pub laid_over-none : (old bytes : List ℕ) (address start first end : ℕ) → length old ≡ 64 → first ≡ max address start → end ≡ min (address + length bytes) (start + 64) → end ≤ first
-    → old ≡ laid_over address bytes start old
-unfolding laid_over
-laid_over-none old bytes address start first end size begins ends none =
-    fill_by_all (λ k. given_or address bytes (start + k) (get_or old k 0)) old 64 0 size (λ k h. not_given address (length bytes) (start + k) k h)
-  where
-    not_given : (a n x k : ℕ) → k < 64 → get_or old k 0 ≡ given_or address bytes (start + k) (get_or old k 0)
-    not_given a n x k h = grind (arith, nat_tests)
