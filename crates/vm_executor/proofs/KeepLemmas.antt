@@ -1,18 +1,17 @@
 -- Pages by their labels, and what the blocks are after one of them was put.
-use Rattle.std.proofs.Common.{◌≡◌, ◌≢◌, inl, inr, ℕ, zero, suc, ◌+◌, ◌/◌, ◌%◌, ◌<◌, ◌≤◌, ◌&&◌, Bool, true, false, cond, nat_eq, nat_lt, List, [], ◌∷◌, ◌++◌, length, map, get_or, set, take, drop, slice_index, replicate, Option, Some, None, refl, sym, ap, ◌∙◌, subst, ⊎_elim, arith}
+use Rattle.std.proofs.Common.{◌≡◌, ◌≢◌, inl, inr, ℕ, zero, suc, ◌+◌, ◌/◌, ◌%◌, ◌<◌, ◌≤◌, ◌&&◌, Bool, true, false, cond, nat_eq, nat_lt, List, [], ◌∷◌, ◌++◌, length, get_or, set, slice_index, replicate, Option, Some, None, refl, sym, ap, ◌∙◌, subst, ⊎_elim, arith}
 use Rattle.std.specs.Option.{option_map}
 use Rattle.std.specs.Ordering.{is_eq, nat_cmp}
 use Rattle.std.specs.Cmp.{nat_cmp_is}
 use Rattle.std.specs.declared.cmp.Ordering.TheVariants.{Less, Equal, Greater}
 use Rattle.std.proofs.Math.Path.{fun_ext}
 use Rattle.std.proofs.lemmas.Bool.{cases_eq, cases_lt, and_parts, ltb-true, eqb-true, eq-eqb, ne_eqb, both_ways}
-use Rattle.std.proofs.lemmas.List.{take_all, drop_all, append-nil}
-use Rattle.std.proofs.lemmas.List.Elements.{All-nil, All-cons, All-append, All-set, All-map}
+use Rattle.std.proofs.lemmas.List.Elements.{All-nil, All-cons, All-append, All-set}
 use Rattle.elf_image.specs.Loaded.{Loaded}
 use Rattle.vm_isa.specs.Blocks.{Blocks, is_block, space_size, with_block}
 use Rattle.vm_isa.proofs.SpaceLaws.{block_low}
 use Rattle.vm_trace.specs.declared.page.Touched.{Touched}
-use Rattle.vm_trace.specs.Pages.{block_word, page_space, block_pointer, IsMachineLabel}
+use Rattle.vm_trace.specs.Pages.{block_word, page_space, block_pointer, IsMachineLabel, IsWhole}
 use Rattle.vm_transpile.specs.Start.{start_blocks}
 use Rattle.vm_executor.specs.Machine.{with_time}
 use Rattle.vm_executor.specs.Pages.{IsPut, begun_page, never}
@@ -120,18 +119,6 @@ page-set (p ∷ pages) (suc k) page d label e h =
     below_of None g = absurd (cc)
     below_of (Some j) g = let same : j ≡ k = (let s : j + 1 ≡ suc k = some_same (j + 1) (suc k) g in omega arith) in ap Some same
 
--- ---- where a segment begins
-
-pub page-begun : (pages : List Touched) (label : ℕ) → page_at (map begun_page pages) label ≡ option_map begun_page (page_at pages label)
-unfolding page_at
-page-begun [] label = refl
-page-begun (p ∷ pages) label = by_test (nat_eq p.label label) (λ e. rw e refl) (λ e. rw e (page-begun pages label))
-
-pub place-begun : (pages : List Touched) (label : ℕ) → place_at (map begun_page pages) label ≡ place_at pages label
-unfolding place_at
-place-begun [] label = refl
-place-begun (p ∷ pages) label = ap (λ o. cond (nat_eq p.label label) (Some 0) (option_map (λ n. n + 1) o)) (place-begun pages label)
-
 -- ---- blocks and their pages
 
 pub one_block : (s p s' p' : ℕ) → is_block s p ≡ true → is_block s' p' ≡ true → label_of s p ≡ label_of s' p' → block_in p ≡ block_in p' → (s' ≡ s) × (p' ≡ p)
@@ -225,7 +212,7 @@ put_in old new s p before page word time h put was is = record {
 
 -- ---- a page that is kept from now on
 
-place_of_block : (s p label : ℕ) → is_block s p ≡ true → label ≡ label_of s p → (page_space label ≡ s) × (block_pointer label (block_in p) ≡ p) × (block_in p < 16)
+pub place_of_block : (s p label : ℕ) → is_block s p ≡ true → label ≡ label_of s p → (page_space label ≡ s) × (block_pointer label (block_in p) ≡ p) × (block_in p < 16)
 place_of_block s p label h e =
     let low = block_low s p h in
     (omega (arith, low.1, e), omega (arith, low.0, low.1, e), omega arith)
@@ -275,28 +262,28 @@ fresh_in old new s p page h is put was fresh = record {
 
 -- ---- where a segment begins
 
-begun_word : (side : Touched → List ℕ) (loaded : Loaded) (pages : List Touched) (s p : ℕ) → ((page : Touched) → side (begun_page page) ≡ page.new)
-    → blocks_by side (record { loaded = loaded; pages = map begun_page pages }) s p ≡ now_of (record { loaded = loaded; pages = pages }) s p
+begun_word : (side : Touched → List ℕ) (old new : Kept) (s p : ℕ) → new.loaded ≡ old.loaded → ((label : ℕ) → page_at new.pages label ≡ option_map begun_page (page_at old.pages label))
+    → ((page : Touched) → side (begun_page page) ≡ page.new) → blocks_by side new s p ≡ now_of old s p
 unfolding blocks_by
-begun_word side loaded pages s p is = by_test (is_block s p) (λ b. rw (b, page-begun pages (label_of s p)) (go (page_at pages (label_of s p)))) (λ b. rw b refl)
+begun_word side old new s p same pages is = by_test (is_block s p) (λ b. rw (b, pages (label_of s p), same) (go (page_at old.pages (label_of s p)))) (λ b. rw (b, same) refl)
   where
-    go : (o : Option Touched) → word_by side (option_map begun_page o) (block_in p) (start_blocks loaded s p) ≡ word_by (λ page. page.new) o (block_in p) (start_blocks loaded s p)
+    go : (o : Option Touched) → word_by side (option_map begun_page o) (block_in p) (start_blocks old.loaded s p) ≡ word_by (λ page. page.new) o (block_in p) (start_blocks old.loaded s p)
     go None = refl
     go (Some page) = ap (λ (xs : List ℕ). block_word xs (block_in p)) (is page)
 
-begun_time : (loaded : Loaded) (pages : List Touched) (s p : ℕ) → times_of (record { loaded = loaded; pages = map begun_page pages }) s p ≡ 0
+begun_time : (old new : Kept) (s p : ℕ) → ((label : ℕ) → page_at new.pages label ≡ option_map begun_page (page_at old.pages label)) → times_of new s p ≡ 0
 unfolding times_of
-begun_time loaded pages s p = by_test (is_block s p) (λ b. rw (b, page-begun pages (label_of s p)) (go (page_at pages (label_of s p)))) (λ b. rw b refl)
+begun_time old new s p pages = by_test (is_block s p) (λ b. rw (b, pages (label_of s p)) (go (page_at old.pages (label_of s p)))) (λ b. rw b refl)
   where
     go : (o : Option Touched) → time_by (option_map begun_page o) (block_in p) ≡ 0
     go None = refl
     go (Some page) = zero_time (block_in p) (omega arith)
 
-pub begins : (loaded : Loaded) (pages : List Touched) → Begins (record { loaded = loaded; pages = pages }) (record { loaded = loaded; pages = map begun_page pages })
-begins loaded pages = record {
-  now = fun_ext (λ s. fun_ext (λ p. begun_word (λ page. page.new) loaded pages s p (λ page. refl)));
-  began = fun_ext (λ s. fun_ext (λ p. begun_word (λ page. page.old) loaded pages s p (λ page. refl)));
-  times = fun_ext (λ s. fun_ext (λ p. begun_time loaded pages s p));
+pub begins : (old new : Kept) → new.loaded ≡ old.loaded → ((label : ℕ) → page_at new.pages label ≡ option_map begun_page (page_at old.pages label)) → Begins old new
+begins old new same pages = record {
+  now = fun_ext (λ s. fun_ext (λ p. begun_word (λ page. page.new) old new s p same pages (λ page. refl)));
+  began = fun_ext (λ s. fun_ext (λ p. begun_word (λ page. page.old) old new s p same pages (λ page. refl)));
+  times = fun_ext (λ s. fun_ext (λ p. begun_time old new s p pages));
 }
 
 -- ---- what stands at a block
@@ -308,22 +295,22 @@ pub found_time : (kept : Kept) (s p k : ℕ) (d : Touched) → is_block s p ≡ 
 unfolding times_of
 found_time kept s p k d h at = rw (h, (placed kept.pages (label_of s p) k d at).page) refl
 
-pub missing_word : (kept : Kept) (s p : ℕ) → place_at kept.pages (label_of s p) ≡ None → now_of kept s p ≡ start_blocks kept.loaded s p
-unfolding blocks_by
-missing_word kept s p at = by_test (is_block s p) (λ b. rw (b, unplaced kept.pages (label_of s p) at) refl) (λ b. rw b refl)
-
-pub missing_time : (kept : Kept) (s p : ℕ) → place_at kept.pages (label_of s p) ≡ None → times_of kept s p ≡ 0
-unfolding times_of
-missing_time kept s p at = by_test (is_block s p) (λ b. rw (b, unplaced kept.pages (label_of s p) at) refl) (λ b. rw b refl)
-
 -- nothing is kept where the run begins
-pub none_kept : (loaded : Loaded) (side : Touched → List ℕ) → blocks_by side (record { loaded = loaded; pages = [] }) ≡ start_blocks loaded
+pub none_kept : (loaded : Loaded) (reached : List (ℕ × ℕ)) (side : Touched → List ℕ) → blocks_by side (record { loaded = loaded; pages = []; reached = reached }) ≡ start_blocks loaded
 unfolding blocks_by page_at
-none_kept loaded side = fun_ext (λ s. fun_ext (λ p. by_test (is_block s p) (λ b. rw b refl) (λ b. rw b refl)))
+none_kept loaded reached side = fun_ext (λ s. fun_ext (λ p. by_test (is_block s p) (λ b. rw b refl) (λ b. rw b refl)))
 
-pub never_kept : (loaded : Loaded) → times_of (record { loaded = loaded; pages = [] }) ≡ never
+pub never_kept : (loaded : Loaded) (reached : List (ℕ × ℕ)) → times_of (record { loaded = loaded; pages = []; reached = reached }) ≡ never
 unfolding times_of page_at
-never_kept loaded = fun_ext (λ s. fun_ext (λ p. by_test (is_block s p) (λ b. rw b refl) (λ b. rw b refl)))
+never_kept loaded reached = fun_ext (λ s. fun_ext (λ p. by_test (is_block s p) (λ b. rw b refl) (λ b. rw b refl)))
+
+-- what was reached changes no block
+pub same_kept : (loaded : Loaded) (pages : List Touched) (old new : List (ℕ × ℕ)) → KeepsAll (record { loaded = loaded; pages = pages; reached = old }) (record { loaded = loaded; pages = pages; reached = new })
+unfolding blocks_by times_of
+same_kept loaded pages old new = record { now = refl; began = refl; times = refl }
+
+pub keeps_both : (a b c : Kept) → KeepsAll a b → KeepsAll b c → KeepsAll a c
+keeps_both a b c h k = record { now = k.now ∙ h.now; began = k.began ∙ h.began; times = k.times ∙ h.times }
 
 -- ---- the invariant
 
@@ -342,17 +329,19 @@ same_key a b =
     (cases_lt a b)
 
 pub AreKept-none : AreKept []
-AreKept-none = record { machine = λ k d h. absurd (omega arith); idle = λ k d h. absurd (omega arith) }
+AreKept-none = record { machine = λ k d h. absurd (omega arith); whole = λ k d h. absurd (omega arith); idle = λ k d h. absurd (omega arith) }
 
-pub AreKept-push : (loaded : Loaded) (pages : List Touched) (page : Touched) → IsMachineLabel page.label → IsFresh loaded page → AreKept pages → AreKept (pages ++ page ∷ [])
-AreKept-push loaded pages page label fresh kept = record {
+pub AreKept-push : (loaded : Loaded) (pages : List Touched) (page : Touched) → IsMachineLabel page.label → IsWhole page → IsFresh loaded page → AreKept pages → AreKept (pages ++ page ∷ [])
+AreKept-push loaded pages page label whole fresh kept = record {
   machine = All-append HasLabel pages (page ∷ []) kept.machine (All-cons HasLabel page [] label (All-nil HasLabel));
+  whole = All-append IsWhole pages (page ∷ []) kept.whole (All-cons IsWhole page [] whole (All-nil IsWhole));
   idle = All-append IsIdle pages (page ∷ []) kept.idle (All-cons IsIdle page [] (record { stays = λ b low t. ap (λ (xs : List ℕ). block_word xs b) (sym fresh.same) }) (All-nil IsIdle));
 }
 
-pub AreKept-set : (pages : List Touched) (k block : ℕ) (page d : Touched) (word : List ℕ) (time : ℕ) → k < length pages → 1 ≤ time → IsPut (get_or pages k d) page block word time → AreKept pages → AreKept (set pages k page)
-AreKept-set pages k block page d word time within begun put kept = record {
+pub AreKept-set : (pages : List Touched) (k block : ℕ) (page d : Touched) (word : List ℕ) (time : ℕ) → k < length pages → 1 ≤ time → IsWhole page → IsPut (get_or pages k d) page block word time → AreKept pages → AreKept (set pages k page)
+AreKept-set pages k block page d word time within begun whole put kept = record {
   machine = All-set HasLabel pages k page (subst IsMachineLabel (sym put.label_is) (kept.machine k d within)) kept.machine;
+  whole = All-set IsWhole pages k page whole kept.whole;
   idle = All-set IsIdle pages k page (record {
     stays = λ b low t.
         ⊎_elim
@@ -362,32 +351,12 @@ AreKept-set pages k block page d word time within begun put kept = record {
   }) kept.idle;
 }
 
-pub AreKept-begun : (pages : List Touched) → AreKept pages → AreKept (map begun_page pages)
-AreKept-begun pages kept = record {
-  machine = All-map HasLabel begun_page pages kept.machine;
-  idle = All-map IsIdle begun_page pages (λ k d h. record { stays = λ b low t. refl });
+pub AreKept-begun : (pages : List Touched) (k : ℕ) (d page : Touched) → k < length pages → page ≡ begun_page (get_or pages k d) → IsWhole page → AreKept pages → AreKept (set pages k page)
+AreKept-begun pages k d page within begun whole kept = record {
+  machine = All-set HasLabel pages k page (subst IsMachineLabel (sym (ap (λ (p : Touched). p.label) begun)) (kept.machine k d within)) kept.machine;
+  whole = All-set IsWhole pages k page whole kept.whole;
+  idle = All-set IsIdle pages k page (record { stays = λ b low t. ap (λ (p : Touched). block_word p.new b) begun ∙ sym (ap (λ (p : Touched). block_word p.old b) begun) }) kept.idle;
 }
-
--- ---- a loop over the pages
-
-pub begun-more : (pages : List Touched) (i : ℕ) (d : Touched) → i < length pages → set (map begun_page (take i pages) ++ drop i pages) i (begun_page (get_or pages i d)) ≡ map begun_page (take (i + 1) pages) ++ drop (i + 1) pages
-begun-more [] i d h = absurd (omega arith)
-begun-more (p ∷ pages) zero d h = refl
-begun-more (p ∷ pages) (suc i) d h =
-    let next : suc i + 1 ≡ suc (i + 1) = omega arith in
-    ap (λ (xs : List Touched). begun_page p ∷ xs) (begun-more pages i d (omega arith)) ∙ ap (λ (n : ℕ). map begun_page (take n (p ∷ pages)) ++ drop n (p ∷ pages)) (sym next)
-
-pub item-behind : (pages : List Touched) (i : ℕ) (d : Touched) → i < length pages → get_or (map begun_page (take i pages) ++ drop i pages) i d ≡ get_or pages i d
-item-behind [] i d h = absurd (omega arith)
-item-behind (p ∷ pages) zero d h = refl
-item-behind (p ∷ pages) (suc i) d h = item-behind pages i d (omega arith)
-
-pub all-begun : (pages : List Touched) (n : ℕ) → length pages ≤ n → map begun_page (take n pages) ++ drop n pages ≡ map begun_page pages
-all-begun pages n h = ap (λ (xs : List Touched). map begun_page xs ++ drop n pages) (take_all n pages h) ∙ ap (λ (xs : List Touched). map begun_page pages ++ xs) (drop_all n pages h) ∙ append-nil (map begun_page pages)
-
-pub written-back : (xs ys : List Touched) (n : ℕ) → length ys ≡ length xs → n ≡ length xs → take n (ys ++ drop (length ys) xs) ≡ ys
-written-back xs ys n same e =
-    ap (λ (zs : List Touched). take n (ys ++ zs)) (drop_all (length ys) xs (omega (arith, same))) ∙ ap (take n) (append-nil ys) ∙ take_all n ys (omega (arith, same, e))
 
 -- the label of a block's page is one of the machine's
 pub machine_label : (s p : ℕ) → is_block s p ≡ true → IsMachineLabel (label_of s p)

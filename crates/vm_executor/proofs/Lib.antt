@@ -4,6 +4,11 @@ pub mod SinceLemmas
 pub mod VmSteps
 pub mod MetWords
 pub mod KeepLemmas
+pub mod PageBytes
+pub mod SegmentLemmas
+pub mod TouchedLemmas
 pub mod ReadLemmas
 pub mod WriteLemmas
 pub mod StepWords
+pub mod OneStep
+pub mod RunLemmas

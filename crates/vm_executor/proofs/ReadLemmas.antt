@@ -1,8 +1,10 @@
 -- The words that a step reads, one after another, before it writes.
-use Rattle.std.proofs.Common.{◌≡◌, ℕ, zero, suc, ◌+◌, ◌<◌, ◌≤◌, Bool, true, false, nat_eq, List, [], ◌∷◌, ◌++◌, length, map, take, drop, Option, Some, None, refl, sym, ap, ◌∙◌, subst, arith, append_assoc, length-append}
+use Rattle.std.proofs.Common.{◌≡◌, ℕ, zero, suc, ◌+◌, ◌<◌, ◌≤◌, Bool, true, false, nat_eq, List, [], ◌∷◌, ◌++◌, length, map, take, drop, Option, Some, None, refl, sym, ap, ◌∙◌, subst, arith, append_assoc, length-append, ⊎_elim, get_or}
+use Rattle.std.proofs.Math.ListN.{get_or-append}
+use Rattle.std.proofs.Math.Seq.{get_or-append_seam}
 use Rattle.std.specs.Prelude.{slice_get}
 use Rattle.std.specs.List.{AllByRecursion}
-use Rattle.std.proofs.lemmas.Bool.{both_ways}
+use Rattle.std.proofs.lemmas.Bool.{both_ways, cases_lt}
 use Rattle.std.proofs.lemmas.List.{length-map, take_all, append-nil}
 use Rattle.vm_isa.specs.declared.instr.VmInstr.{VmInstr}
 use Rattle.vm_isa.specs.declared.meaning.NextAccess.TheVariants.{NoMeaning, At, Done}
@@ -12,6 +14,9 @@ use Rattle.vm_isa.specs.Opcodes.{is_load, is_store, is_branch, is_upper, is_regi
 use Rattle.vm_isa.specs.Means.{Accessed, Meaning, at_place, is_refused, means_of, next_access_of, places_by, places_of, word_at}
 use Rattle.vm_isa.proofs.MeetLaws.{met_words_stand, standing_words_are_met}
 use Rattle.vm_isa.proofs.NextLaws.{done_is_a_meaning, meant, next_is_the_meanings, no_meaning_is_final}
+use Rattle.vm_executor.specs.declared.block.Reached.{Reached}
+use Rattle.vm_executor.specs.Memory.{Kept, IsReached, StaysReached}
+use Rattle.vm_executor.specs.Read.{AreReached, IsNext}
 use Rattle.vm_executor.proofs.MetWords.{old_words}
 
 -- What was read so far: each meaning with these words finds them, and each that can be done has them.
@@ -98,6 +103,39 @@ read_off i blocks words olds given m slot space pointer read at off h meets =
     let a = next.0 in
     let finds = all_at_item blocks m.accesses (length words) a next.1 (met_words_stand blocks i olds given m h meets) in
     both_ways (is_block space pointer) off (ap (λ (s : ℕ). is_block s pointer) (sym next.3) ∙ ap (is_block a.space) (sym next.4) ∙ finds.0)
+
+-- ---- the blocks that were reached
+
+take_front : (xs : List (List ℕ)) (y : List ℕ) (k : ℕ) → k ≤ length xs → take k (xs ++ y ∷ []) ≡ take k xs
+take_front xs y zero h = refl
+take_front [] y (suc k) h = absurd (omega arith)
+take_front (x ∷ xs) y (suc k) h = ap (λ (zs : List (List ℕ)). x ∷ zs) (take_front xs y k (omega arith))
+
+pub reached_more : (i : VmInstr) (old new : Kept) (words : List (List ℕ)) (word : List ℕ) (blocks : List Reached) (block : Reached) → AreReached i old words blocks → StaysReached old new → next_access_of i words ≡ At block.slot block.space block.pointer → IsReached new block
+    → AreReached i new (words ++ word ∷ []) (blocks ++ block ∷ [])
+reached_more i old new words word blocks block reached stays next is = record {
+  count = length-append blocks (block ∷ []) ∙ ap (λ (n : ℕ). n + 1) reached.count ∙ sym (length-append words (word ∷ []));
+  each = λ number none h.
+      let long = length-append blocks (block ∷ []) in
+      ⊎_elim
+      (λ (before : number < length blocks).
+      let was = reached.each number none before in
+      let same = get_or-append blocks (block ∷ []) none number before in
+      subst (IsNext i new (words ++ word ∷ []) number) (sym same)
+      (record {
+        is = ap (next_access_of i) (take_front words word number (omega (arith, before, reached.count))) ∙ was.is;
+        reached = record { on = was.reached.on; at = stays _ _ was.reached.at };
+      }))
+      (λ (last : length blocks ≤ number).
+      let here : number ≡ length blocks = omega (arith, h, long, last) in
+      let same : get_or (blocks ++ block ∷ []) number none ≡ block = ap (λ (n : ℕ). get_or (blocks ++ block ∷ []) n none) here ∙ get_or-append_seam blocks block [] none in
+      subst (IsNext i new (words ++ word ∷ []) number) (sym same)
+      (record {
+        is = ap (next_access_of i) (take_front words word number (omega (arith, here, reached.count)) ∙ take_all number words (omega (arith, here, reached.count))) ∙ next;
+        reached = is;
+      }))
+      (cases_lt number (length blocks));
+}
 
 -- ---- how many words there are
 

@@ -1,16 +1,19 @@
 -- Accesses that replay from blocks at time 0 are linked, and pages that show the two ends fit them.
-use Rattle.std.proofs.Common.{◌≡◌, ℕ, ◌<◌, Bool, true, false, cond, List, [], ◌∷◌, Option, Some, None, refl, sym, ap, ◌∙◌}
+use Rattle.std.proofs.Common.{◌≡◌, ℕ, ◌<◌, ◌≤◌, ◌⊎◌, inl, inr, ⊎_elim, Bool, true, false, cond, nat_eq, List, [], ◌∷◌, Option, Some, None, refl, sym, ap, ◌∙◌, subst, arith}
+use Rattle.std.proofs.lemmas.Bool.{and_from, eq-eqb}
+use Rattle.air_core.specs.Orders.{Member}
 use Rattle.std.specs.List.{AllByRecursion, range_with_len}
 use Rattle.vm_isa.specs.Blocks.{Blocks}
 use Rattle.air_core.specs.ListLemmas.{all_weaker}
 use Rattle.air_core.proofs.ElementLemmas.{all_map, all_from_members, all_flat_map}
 use Rattle.vm_trace.specs.declared.page.Touched.{Touched}
 use Rattle.offline_memory.specs.Memory.{Access, Block, is_cell_at, after_access, after_all, Replays}
-use Rattle.offline_memory.specs.Pages.{block_of, page_blocks}
+use Rattle.offline_memory.specs.Pages.{DistinctLabels, block_of, page_blocks}
+use Rattle.vm_trace.specs.PageBlocks.{InPages}
 use Rattle.offline_memory.proofs.MemoryLemmas.{Replays-ends}
 use Rattle.offline_memory.proofs.PageLemmas.{below_16}
 use Rattle.offline_memory.specs.Linked.{Lasts, unmet, Follows, Linked, first_word, BlockFits, PagesFit}
-use Rattle.vm_executor.specs.Pages.{Times, with_times, never, Shows, HasAccessed}
+use Rattle.vm_executor.specs.Pages.{Times, with_times, never, Shows}
 use Rattle.offline_memory.proofs.MemoryBalance.{same_place}
 use Rattle.offline_memory.proofs.LinkedLemmas.{last_stands, none_stays}
 
@@ -97,6 +100,60 @@ last_of_first (a ∷ more) q s p word h = by_place (is_cell_at a.space a.pointer
     by_place true e first rest = keeps_some more (after_access a q) s p (a.new, a.time) (rw e refl)
     by_place false e first rest = rest first
 
+-- ---- times
+
+late_by : (a : Access) (q : Lasts) (s p : ℕ) (b : Bool) → 1 ≤ a.time → ((c : List ℕ × ℕ) → q s p ≡ Some c → 1 ≤ c.1) → (c : List ℕ × ℕ) → cond b (Some (a.new, a.time)) (q s p) ≡ Some c → 1 ≤ c.1
+late_by a q s p true late was c h = subst (λ (n : ℕ). 1 ≤ n) (some_word a.new c.0 a.time c.1 h).1 late
+late_by a q s p false late was c h = was c h
+
+-- what accesses leave at a place of late ones is late
+late_stays : (accesses : List Access) (q : Lasts) (s p : ℕ) → AllByRecursion (λ a. 1 ≤ a.time) accesses → ((c : List ℕ × ℕ) → q s p ≡ Some c → 1 ≤ c.1) → (c : List ℕ × ℕ) → after_all accesses q s p ≡ Some c → 1 ≤ c.1
+late_stays [] q s p late was = was
+late_stays (a ∷ more) q s p late was = late_stays more (after_access a q) s p late.1 (late_by a q s p (is_cell_at a.space a.pointer s p) late.0 was)
+
+there : (a : Access) → is_cell_at a.space a.pointer a.space a.pointer ≡ true
+there a = and_from (nat_eq a.space a.space) (nat_eq a.pointer a.pointer) (eq-eqb a.space a.space refl) (eq-eqb a.pointer a.pointer refl)
+
+late_of : (accesses : List Access) (q : Lasts) (a : Access) → AllByRecursion (λ a. 1 ≤ a.time) accesses → Member a accesses → (c : List ℕ × ℕ) → after_all accesses q a.space a.pointer ≡ Some c → 1 ≤ c.1
+late_of [] q a late h c e = absurd h
+late_of (b ∷ more) q a late (inl same) c e =
+    late_stays more (after_access b q) a.space a.pointer late.1
+    (λ d f. subst (λ (n : ℕ). 1 ≤ n) (some_word b.new d.0 b.time d.1 (sym (ap (λ (t : Bool). cond t (Some (b.new, b.time)) (q a.space a.pointer)) (ap (λ (x : Access). is_cell_at x.space x.pointer a.space a.pointer) same ∙ there a)) ∙ f)).1 late.0)
+    c e
+late_of (b ∷ more) q a late (inr h) c e = late_of more (after_access b q) a late.1 h c e
+
+-- the block of an access has a time at the end
+pub accessed_late : (start now : Blocks) (times : Times) (accesses : List Access) (a : Access) → Replays (with_times start never) accesses (with_times now times) → AllByRecursion (λ a. 1 ≤ a.time) accesses → Member a accesses
+    → 1 ≤ times a.space a.pointer
+accessed_late start now times accesses a replays late stands =
+    late_of accesses (with_times start never) a late stands (now a.space a.pointer, times a.space a.pointer) (Replays-ends (with_times start never) (with_times now times) accesses replays a.space a.pointer)
+
+-- an access at a place
+pub record AccessAt (accesses : List Access) (s p : ℕ) : Type 0 where
+  pub access : Access
+  pub stands : Member access accesses
+  pub space_is : access.space ≡ s
+  pub pointer_is : access.pointer ≡ p
+
+found_by : (accesses : List Access) (q : Lasts) (s p : ℕ) → AccessAt accesses s p ⊎ (after_all accesses q s p ≡ q s p)
+found_by [] q s p = inr refl
+found_by (a ∷ more) q s p = by_place (is_cell_at a.space a.pointer s p) refl (found_by more (after_access a q) s p)
+  where
+    by_place : (b : Bool) → is_cell_at a.space a.pointer s p ≡ b → AccessAt more s p ⊎ (after_all more (after_access a q) s p ≡ after_access a q s p) → AccessAt (a ∷ more) s p ⊎ (after_all more (after_access a q) s p ≡ q s p)
+    by_place true e rest = let same = same_place a.space a.pointer s p e in inl (record { access = a; stands = inl refl; space_is = same.0; pointer_is = same.1 })
+    by_place false e (inl at) = inl (record { access = at.access; stands = inr at.stands; space_is = at.space_is; pointer_is = at.pointer_is })
+    by_place false e (inr stays) = inr (stays ∙ ap (λ (t : Bool). cond t (Some (a.new, a.time)) (q s p)) e)
+
+-- a block that has a time at the end has an access
+pub late_accessed : (start now : Blocks) (times : Times) (accesses : List Access) (s p : ℕ) → Replays (with_times start never) accesses (with_times now times) → 1 ≤ times s p → AccessAt accesses s p
+late_accessed start now times accesses s p replays late =
+    ⊎_elim
+    (λ (at : AccessAt accesses s p). at)
+    (λ (stays : after_all accesses (with_times start never) s p ≡ with_times start never s p).
+    let zero_time : 0 ≡ times s p = (some_word (start s p) (now s p) 0 (times s p) (sym stays ∙ Replays-ends (with_times start never) (with_times now times) accesses replays s p)).1 in
+    absurd (omega (arith, late, zero_time)))
+    (found_by accesses (with_times start never) s p)
+
 -- ---- pages
 
 fits_by : (start now : Blocks) (times : Times) (accesses : List Access) (b : Block) (x : Option (List ℕ)) → first_word accesses b.space b.pointer ≡ x
@@ -117,10 +174,10 @@ fits_by start now times accesses b (Some word) e replays first last final =
 
 -- Pages that show where the blocks began and where they are fit the accesses between.
 pub replays_fit : (start now : Blocks) (times : Times) (accesses : List Access) (pages : List Touched) → Replays (with_times start never) accesses (with_times now times)
-    → Shows pages start now times → HasAccessed pages accesses → PagesFit pages accesses
-replays_fit start now times accesses pages replays shows has = record {
-  distinct = has.distinct;
-  inside = has.inside;
+    → Shows pages start now times → DistinctLabels pages → AllByRecursion (λ a. InPages pages a.space a.pointer) accesses → PagesFit pages accesses
+replays_fit start now times accesses pages replays shows distinct inside = record {
+  distinct = distinct;
+  inside = inside;
   blocks =
       let P : Block → Type 0 = λ b. BlockFits (first_word accesses b.space b.pointer) (after_all accesses unmet b.space b.pointer) b in
       all_flat_map P page_blocks pages

@@ -5,4 +5,5 @@ pub mod Memory
 pub mod Read
 pub mod Write
 pub mod State
+pub mod Runs
 pub mod Laws

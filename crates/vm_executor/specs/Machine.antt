@@ -1,5 +1,5 @@
 -- The machine with its times, and one completed step of it.
-use Rattle.std.specs.Prelude.{◌≡◌, ℕ, ◌+◌, ◌<◌, ◌&&◌, nat_eq, if◌then◌else◌, List, [], ◌∷◌, map, Some, Contains}
+use Rattle.std.specs.Prelude.{◌≡◌, ℕ, ◌+◌, ◌<◌, ◌≤◌, ◌&&◌, nat_eq, if◌then◌else◌, List, [], ◌∷◌, map, Some, Contains}
 use Rattle.std.specs.List.{AllByRecursion}
 use Rattle.vm_isa.specs.declared.access.TimedAccess.{TimedAccess}
 use Rattle.vm_isa.specs.declared.instr.VmInstr.{VmInstr}
@@ -75,6 +75,7 @@ pub record Since (program : List VmInstr) (pc : ℕ) (done : List StepRecord) (m
   pub stand : AllByRecursion (λ d. Contains program d.instr) done
   pub replays : Replays (with_times m.start never) (accesses_of done) (with_times m.now m.times)
   pub early : (space pointer : ℕ) → m.times space pointer < m.time
+  pub late : AllByRecursion (λ a. 1 ≤ a.time) (accesses_of done)
 
 -- no step is done: the machine stays as it was, its row is no TERMINATE, and there is no step on blocks
 pub record IsStuck (program : List VmInstr) (old new : Machine) : Type 0 where

@@ -1,12 +1,12 @@
 -- What a machine's memory is between two records, and its pages.
-use Rattle.std.specs.Prelude.{◌≡◌, ◌≢◌, ℕ, ◌<◌, List, replicate, slice_index, Option, Some}
-use Rattle.std.specs.List.{AllByRecursion}
+use Rattle.std.specs.Prelude.{◌≡◌, ◌≢◌, ◌⊎◌, ℕ, ◌+◌, ◌*◌, ◌/◌, ◌<◌, ◌≤◌, List, All, map, replicate, slice_index, Option, Some}
+use Rattle.std.specs.List.Sorted.{IsStrictlyIncreasing}
 use Rattle.vm_isa.specs.Blocks.{Blocks}
 use Rattle.air_core.specs.Orders.{Member}
 use Rattle.vm_trace.specs.declared.page.Touched.{Touched}
 use Rattle.offline_memory.specs.Memory.{Access}
-use Rattle.offline_memory.specs.Pages.{DistinctLabels}
-use Rattle.vm_trace.specs.Pages.{page_space, block_pointer, block_word}
+use Rattle.vm_trace.specs.declared.page.TheConstants.{SPACE_PAGES}
+use Rattle.vm_trace.specs.Pages.{page_space, block_pointer, block_word, IsMachineLabel, IsWhole}
 use Rattle.vm_trace.specs.PageBlocks.{InPages}
 
 -- the time of each block's last access, and 0 where there was none
@@ -26,10 +26,27 @@ pub record Shows (pages : List Touched) (start now : Blocks) (times : Times) : T
   pub new : (page : Touched) (block : ℕ) → Member page pages → block < 16 → block_word page.new block ≡ now (page_space page.label) (block_pointer page.label block)
   pub time : (page : Touched) (block : ℕ) → Member page pages → block < 16 → slice_index page.times block ≡ times (page_space page.label) (block_pointer page.label block)
 
--- They are the pages of these accesses: of different labels, and every accessed block is there.
-pub record HasAccessed (pages : List Touched) (accesses : List Access) : Type 0 where
-  pub distinct : DistinctLabels pages
-  pub inside : AllByRecursion (λ a. InPages pages a.space a.pointer) accesses
+-- some block of the page was accessed
+pub record HasAccess (page : Touched) : Type 0 where
+  pub block : ℕ
+  pub within : block < 16
+  pub accessed : 1 ≤ slice_index page.times block
+
+-- The pages of a segment, in rising order of their labels: those of the machine with an accessed block, as the segment
+-- found them and as they are now. A block is in one of them, or has the word that it began with, and no time.
+pub record AreTouched (start now : Blocks) (times : Times) (pages : List Touched) : Type 0 where
+  pub rising : IsStrictlyIncreasing (map (λ page. page.label) pages)
+  pub machine : All (λ page. IsMachineLabel page.label) pages
+  pub whole : All IsWhole pages
+  pub accessed : All HasAccess pages
+  pub shows : Shows pages start now times
+  pub others : (space pointer : ℕ) → InPages pages space pointer ⊎ ((now space pointer ≡ start space pointer) × (times space pointer ≡ 0))
+
+-- a block of the page has one of these accesses
+pub record HasAccessOf (accesses : List Access) (page : Touched) : Type 0 where
+  pub access : Access
+  pub stands : Member access accesses
+  pub label_is : page.label ≡ SPACE_PAGES * access.space + access.pointer / 64
 
 -- a page with a word and its time put into a block
 pub record IsPut (old new : Touched) (block : ℕ) (word : List ℕ) (time : ℕ) : Type 0 where

@@ -1,5 +1,5 @@
 //! What the machine's steps say. Each function is empty: its contract is the law.
-ghost use Rattle.vm_executor.specs.Laws.{RecordsAreLinked, SegmentsBegin, StepsAreFillable, StepsAreStepsOnBlocks, StepsGoOn, StuckNowhereAlone, TouchedPagesFit};
+ghost use Rattle.vm_executor.specs.Laws.{RecordsAreLinked, RunsAreRunsOnBlocks, RunsAreTheManuals, RunsGoAlong, SegmentsBegin, StepsAreFillable, StepsAreStepsOnBlocks, StepsGoOn, StuckNowhereAlone, TouchedPagesFit};
 
 /// A completed step is one of the machine on blocks.
 pub fn steps_are_steps_on_blocks()
@@ -18,7 +18,7 @@ pub fn records_can_be_filled()
     ensures fillable { StepsAreFillable }
 {}
 
-/// Pages that show the machine fit its records.
+/// The pages of a segment fit its records.
 pub fn touched_pages_fit()
     ensures { TouchedPagesFit }
 {}
@@ -26,4 +26,12 @@ pub fn touched_pages_fit()
 /// Over the program of an image no step is stuck where the manual's machine goes on to where text stands.
 pub fn stuck_nowhere_alone()
     ensures { StuckNowhereAlone }
+{}
+
+/// Over the program of an image a run is the manual's: a step goes on where the manual's machine goes on to
+/// where text stands, and ends where it ends.
+pub fn runs_are_the_manuals()
+    ensures blocks { RunsAreRunsOnBlocks }
+    ensures same { RunsAreTheManuals }
+    ensures along { RunsGoAlong }
 {}

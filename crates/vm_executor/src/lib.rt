@@ -1,6 +1,7 @@
 //! The virtual machine, step by step, with a record of each step.
 #![tactic(auto)]
 
+mod block;
 pub mod laws;
 mod machine;
 mod memory;

@@ -4,13 +4,14 @@ ghost use Rattle.vm_isa.specs.Hints.{AreEnough, hints_after, next_hint};
 
 use crate::OutOfMemory;
 use crate::memory::Memory;
-use crate::read::read;
-use crate::write::write;
+use crate::read::Reading;
+use crate::write::{make, plan};
 use elf_image::Image;
 use rv_run::Hints;
 use std::alloc::Global;
 use vm_isa::opcode::{HINT, TERMINATE};
 use vm_isa::{StepRecord, next_pc, slots};
+use vm_trace::Touched;
 use vm_transpile::Program;
 
 // The word that the host gives for a row: four hint bytes for HINT. There is none where they are too few.
@@ -57,14 +58,15 @@ pub struct Machine<'m> {
     pc: u32,
     time: u32,
     memory: Memory<'m>,
+    reading: Reading,
     ghost begun: { 1 ≤ time },
 }
 
 impl<'m> Machine<'m> {
-    ghost use Rattle.std.specs.Prelude.{◌+◌, ◌-◌, ◌^◌, IfOk};
+    ghost use Rattle.std.specs.Prelude.{◌+◌, ◌-◌, ◌^◌, IfOk, OnErr};
     ghost use Rattle.vm_transpile.specs.Start.{start_blocks};
     ghost use Rattle.vm_executor.specs.Machine.{begun};
-    ghost use Rattle.vm_executor.specs.Pages.{never};
+    ghost use Rattle.vm_executor.specs.Pages.{AreTouched, never};
     ghost use Rattle.vm_executor.specs.State.{IsStep, machine_of, program_of};
 
     /// The machine where a run begins, and a segment of it.
@@ -79,6 +81,7 @@ impl<'m> Machine<'m> {
             pc: image.entry(),
             time: 1,
             memory: Memory::new(alloc, image),
+            reading: Reading::new(alloc),
         }
     }
 
@@ -105,13 +108,23 @@ impl<'m> Machine<'m> {
         self.time = 1;
     }
 
+    /// The pages with a block that was accessed since the segment began, as they were then and as they are
+    /// now, in rising order of their labels.
+    pub fn touched(&self) -> Result<Vec<Touched>, OutOfMemory>
+        ensures { let m = machine_of self.now in IfOk result (λ pages. AreTouched m.start m.now m.times pages.items) }
+    {
+        self.memory.touched(self.alloc)
+    }
+
     /// Does the row at the pc, and hands on its record. It ends exactly where that is a TERMINATE; it is
     /// stuck where there is no row, where the row has no meaning or an access of it is no block, and where
-    /// the hints are too few, and then nothing changes. After want of memory it is not to be used again.
+    /// the hints are too few. Then nothing changes, and nor does it after want of memory, so that the step
+    /// can be tried again.
     pub fn step(&mut self) -> Result<Machined, OutOfMemory>
         requires { self.old.time ≤ 2 ^ 29 - 64 }
         ensures program { program_of self.new ≡ program_of self.old }
         ensures step { IfOk result (IsStep (program_of self.old) (machine_of self.old) (machine_of self.new)) }
+        ensures err { OnErr result (machine_of self.new ≡ machine_of self.old) }
     {
         self.program.rows_rise();
         let Some(instr) = self.program.lookup(self.pc) else {
@@ -123,14 +136,15 @@ impl<'m> Machine<'m> {
         let Some(given) = given(instr.op, &self.hints) else {
             return Ok(Machined::Stuck);
         };
-        let Some(words) = read(self.alloc, &self.memory, &instr)? else {
+        if !self.reading.read(&mut self.memory, &instr)? {
             return Ok(Machined::Stuck);
-        };
-        let words = words.as_slice();
+        }
+        let reading = &self.reading;
         let time = self.time;
-        let accesses = write(self.alloc, &mut self.memory, &instr, words, given, time)?;
+        let accesses = plan(self.alloc, &self.memory, &instr, reading, given, time)?;
+        make(&mut self.memory, reading.blocks.as_slice(), &accesses);
         take_hints(instr.op, &mut self.hints);
-        let next = next_pc(&instr, words);
+        let next = next_pc(&instr, reading.words.as_slice());
         self.pc = next;
         self.time += slots(instr.op);
         Ok(Machined::Went(StepRecord {

@@ -1,74 +1,85 @@
 // The accesses that a step makes.
-ghost use Rattle.std.specs.Prelude.{◌≡◌, ◌+◌, ◌≤◌, ◌^◌, ℕ, List, length, Some, IfOk};
+ghost use Rattle.std.specs.Prelude.{◌≡◌, ◌+◌, ◌≤◌, ◌^◌, ℕ, List, Some, IfOk};
 ghost use Rattle.std.specs.List.{AllByRecursion};
 ghost use Rattle.vm_isa.specs.Blocks.{Meets};
-ghost use Rattle.vm_isa.specs.Words.{IsBytes, IsWord};
+ghost use Rattle.vm_isa.specs.Words.{IsWord};
 ghost use Rattle.vm_isa.specs.Means.{Meaning, means_of, next_access_of};
-ghost use Rattle.vm_executor.specs.Memory.{now_of};
-ghost use Rattle.vm_executor.specs.Write.{IsDone};
+ghost use Rattle.vm_isa.specs.declared.meaning.NextAccess.TheVariants.{Done};
+ghost use Rattle.vm_executor.specs.Machine.{times_after};
+ghost use Rattle.vm_executor.specs.Memory.{now_of, times_of};
+ghost use Rattle.vm_executor.specs.Pages.{Times};
+ghost use Rattle.vm_executor.specs.Read.{AreReached};
+ghost use Rattle.vm_executor.specs.Write.{AreAt, AreMade, IsPlanned};
 
 use crate::OutOfMemory;
+use crate::block::Reached;
 use crate::memory::Memory;
+use crate::page::is_word;
+use crate::read::Reading;
 use std::alloc::Global;
-use vm_isa::{Access, AccessList, NextAccess, TimedAccess, VmInstr, new_word, next_access};
+use vm_isa::{Access, AccessList, TimedAccess, VmInstr, new_word};
 
-// Law: the items of a slice of bytes are bytes.
-fn are_bytes(bytes: &[u8])
-    ensures { IsBytes bytes.now }
+// The time of a block's last access after these accesses, from its time before them.
+fn time_after(made: &AccessList, block: &Reached, time: u32) -> u32
+    ensures { (times : Times) → times block.now.space block.now.pointer ≡ time → result ≡ times_after times made.now block.now.space block.now.pointer }
 {
-    let _ = bytes;
+    let mut last = time;
+    for place in 0..made.len() {
+        if let Some(earlier) = made.at(place) {
+            if earlier.access.space == block.space && earlier.access.pointer == block.pointer {
+                last = earlier.time;
+            }
+        }
+    }
+    last
 }
 
-// Law: four bytes are a word.
-fn is_word(word: &[u8; 4])
-    ensures four { length word.now ≡ 4 }
-    ensures bytes { IsBytes word.now }
-{
-    are_bytes(word);
-}
-
-/// Makes the accesses of an instruction whose old words these are, from a time on.
-pub fn write(
+/// The accesses of an instruction, from what was read for it, beginning at a time.
+pub fn plan(
     alloc: Global,
-    memory: &mut Memory,
+    memory: &Memory,
     instr: &VmInstr,
-    words: &[[u8; 4]],
+    reading: &Reading,
     given: [u8; 4],
     time: u32,
 ) -> Result<AccessList, OutOfMemory>
-    requires whole { next_access_of instr.now words.now ≡ NextAccess.Done }
-    requires meets { (word : List ℕ) (m : Meaning) → means_of instr.now words.now word ≡ Some m → Meets (now_of memory.old) m.accesses }
+    requires whole { next_access_of instr.now reading.now.words.items ≡ Done }
+    requires meets { (word : List ℕ) (m : Meaning) → means_of instr.now reading.now.words.items word ≡ Some m → Meets (now_of memory.now) m.accesses }
+    requires reached { AreReached instr.now memory.now reading.now.words.items reading.now.blocks.items }
     requires begun { 1 ≤ time }
     requires early { time ≤ 2 ^ 29 }
-    ensures done { IfOk result (IsDone instr.now words.now given time memory.old memory.new) }
-    ensures words { IfOk result (λ made. AllByRecursion (λ a. IsWord a.access.old) made) }
+    ensures planned { IfOk result (IsPlanned instr.now reading.now.words.items given time (times_of memory.now)) }
+    ensures words { IfOk result (λ planned. AllByRecursion (λ a. IsWord a.access.old) planned) }
 {
-    let mut made = AccessList::new(alloc);
-    for number in 0..words.len() {
-        let NextAccess::At {
-            slot,
-            space,
-            pointer,
-        } = next_access(instr, &words[..number])
-        else {
-            return Ok(made);
-        };
-        let access_time = time + slot;
-        let before = memory.find(space, pointer).time;
-        let new = new_word(instr, words, number as u32, given);
-        memory.put(space, pointer, new, access_time)?;
-        is_word(&words[number]);
+    let words = reading.words.as_slice();
+    let mut planned = AccessList::new(alloc);
+    for (number, block) in reading.blocks.iter().enumerate() {
+        let old = words[number];
+        is_word(&old);
         let access = Access {
-            space,
-            pointer,
-            old: words[number],
-            new,
+            space: block.space,
+            pointer: block.pointer,
+            old,
+            new: new_word(instr, words, number as u32, given),
         };
-        made.push(TimedAccess {
+        let before = time_after(&planned, block, memory.time(block));
+        planned.push(TimedAccess {
             access,
-            time: access_time,
+            time: time + block.slot,
             before,
         })?;
     }
-    Ok(made)
+    Ok(planned)
+}
+
+/// Makes accesses of these blocks.
+pub fn make(memory: &mut Memory, blocks: &[Reached], planned: &AccessList)
+    requires { AreAt memory.old blocks.now planned.now }
+    ensures { AreMade memory.old memory.new planned.now }
+{
+    for (number, block) in blocks.iter().enumerate() {
+        if let Some(made) = planned.at(number as u32) {
+            memory.put(block, made.access.new, made.time);
+        }
+    }
 }

@@ -1,39 +1,74 @@
-use Rattle.std.proofs.Common.{[], ◌≡◌, ◌++◌, List, get_or, length, map, take, drop, set, sym, ap, ◌∙◌, subst}
+use Rattle.std.proofs.Common.{[], ◌∷◌, ◌≡◌, ◌<◌, ℕ, Bool, true, false, None, Some, List, cond, length, sym, ap, ◌∙◌, subst, refl, arith}
 use Rattle.vm_trace.specs.declared.page.Touched.{Touched}
+use Rattle.vm_trace.specs.Pages.{IsWhole}
 use Rattle.vm_executor.specs.Pages.{begun_page}
-use Rattle.vm_executor.specs.Memory.{AreKept, Begins, Kept, place_at}
-use Rattle.vm_executor.proofs.KeepLemmas.{AreKept-begun, place-begun, begins, begun-more, item-behind, all-begun, written-back}
+use Rattle.vm_executor.specs.Memory.{Begins, IsSegment, Kept, entry_at}
+use Rattle.vm_executor.proofs.KeepLemmas.{AreKept-begun, begins, placed, same_key}
+use Rattle.vm_executor.proofs.SegmentLemmas.{Beginning, beginning_ends, beginning_goes_on, beginning_starts}
 use Rattle.vm_executor.proofs.memory.Memory.begin_segment.Goals as goal
-use Rattle.vm_executor.proofs.memory.Memory.begin_segment.Goals.{After-loop-page}
 
-pub loop-page-preserved : goal.loop-page-preserved
-loop-page-preserved c =
+pub loop-place-init : goal.loop-place-init
+loop-place-init c = record {
+  same = refl;
+  places = λ label. refl;
+  on = beginning_starts c.self.inside.image.now c.self.inside.pages.items c.self.inside.segment.entries c.self.invariant.2;
+  kept = c.self.invariant.0;
+}
+
+pub index_mut-requires : goal.index_mut-requires
+index_mut-requires c =
     let none : Touched = record { label = 0; old = []; new = []; times = [] } in
-    let xs = c.deref_mut-page-items.result.now in
-    let i = c.loop-page.page-index in
-    ap (λ (page : Touched). set c.loop-page.page-items i page) c.begin.ensures
-    ∙ ap (λ (ys : List Touched). set ys i (begun_page (get_or ys i none))) c.loop-page.invariant
-    ∙ ap (λ (page : Touched). set (map begun_page (take i xs) ++ drop i xs) i (begun_page page)) (item-behind xs i none c.loop-page-test.true)
-    ∙ begun-more xs i none c.loop-page-test.true
+    let on = c.loop-place.invariant.on in
+    let label = c.in-Some.field-0-0 in
+    let pages = c.loop-place.self-inside.pages in
+    omega (arith, (placed pages.items label c.in-Some.place none (on.places label ∙ on.stands label c.in-Some.place c.in-Some.ensures.value)).within, pages.ok.0)
 
-pages_after : (c : After-loop-page) → take c.self.inside.pages.len (c.loop-page.page-items ++ drop (length c.loop-page.page-items) c.self.inside.pages.items) ≡ map begun_page c.self.inside.pages.items
-pages_after c =
-    let value = c.deref_mut-page-items.ensures.value in
-    let size = ap length value in
-    written-back c.self.inside.pages.items c.loop-page.page-items c.self.inside.pages.len (c.loop-page.auto.page-items ∙ size) c.self.inside.pages.ok.0
-    ∙ c.loop-page.invariant ∙ all-begun c.deref_mut-page-items.result.now c.loop-page.page-index c.loop-page-test.false ∙ ap (map begun_page) value
+pub loop-place-preserved : goal.loop-place-preserved
+loop-place-preserved c =
+    let on = c.loop-place.invariant.on in
+    let label = c.in-Some.field-0-0 in
+    let place = c.in-Some.place in
+    let pages = c.loop-place.self-inside.pages.items in
+    let before = c.index_mut.result.now in
+    let page = c.begin.new.page in
+    let at : entry_at c.loop-place.self-inside.segment.entries label ≡ Some place = c.in-Some.ensures.value in
+    let within = (placed pages label place before (on.places label ∙ on.stands label place at)).within in
+    let begun = c.begin.ensures.begun ∙ ap begun_page c.index_mut.ensures.value in
+    let whole = c.begin.ensures.whole (subst IsWhole (sym c.index_mut.ensures.value) (c.loop-place.invariant.kept.whole place before within)) in
+    record {
+      same = c.loop-place.invariant.same;
+      places = c.loop-place.invariant.places;
+      on = beginning_goes_on c.self.inside.pages.items pages c.loop-place.self-inside.segment.entries c.pop_first.new.self.entries label place page before on at
+          (λ l. c.in-Some.ensures.updates.0 l ∙ ap (λ (b : Bool). cond b None (entry_at c.loop-place.self-inside.segment.entries l)) (same_key label l)) begun;
+      kept = AreKept-begun pages place before page within begun whole c.loop-place.invariant.kept;
+    }
+
+true_not_false : true ≡ false → ⊥
+true_not_false h = absurd (cc)
+
+none_left : (entries : List (ℕ × ℕ)) → (0 < length entries → ⊥) → entries ≡ []
+none_left [] h = refl
+none_left (e ∷ es) h = absurd (h (omega arith))
 
 pub invariant_of-self : goal.invariant_of-self
 invariant_of-self c =
-    let xs = c.self.inside.pages.items in (
-      subst AreKept (sym (pages_after ((goal.at.invariant_of-self c).After-loop-page))) (AreKept-begun xs c.self.invariant.0),
-      λ label. c.self.invariant.1 label ∙ sym (place-begun xs label) ∙ ap (λ (ys : List Touched). place_at ys label) (sym (pages_after ((goal.at.invariant_of-self c).After-loop-page))),
+    let start = c.self.inside.pages.items in
+    let inside = c.loop-place.self-inside in
+    let over : inside.segment.entries ≡ [] = none_left inside.segment.entries (λ h. true_not_false (sym (c.in_default.ensures.variant.1 h))) in
+    let empty : c.pop_first.new.self.entries ≡ [] = c.in_default.ensures.unchanged ∙ over in
+    let on = subst (Beginning start inside.pages.items) over c.loop-place.invariant.on in (
+      c.loop-place.invariant.kept,
+      λ label. c.loop-place.invariant.places label ∙ c.self.invariant.1 label ∙ sym (on.places label),
+      subst (λ (entries : List (ℕ × ℕ)). IsSegment (record { loaded = inside.image.now; pages = inside.pages.items; reached = entries })) (sym empty)
+          (beginning_ends inside.image.now start inside.pages.items on),
     )
 
 pub returns : goal.returns
 returns c =
-    let loaded = c.self.inside.image.now in
-    let xs = c.self.inside.pages.items in
-    let new : List Touched → Kept = λ ys. record { loaded = loaded; pages = ys } in
-    subst (λ (k : Kept). Begins k (new (take c.self.inside.pages.len (c.loop-page.page-items ++ drop (length c.loop-page.page-items) xs)))) c.self.view_is
-    (subst (λ (ys : List Touched). Begins (new xs) (new ys)) (sym (pages_after ((goal.at.returns c).After-loop-page))) (begins loaded xs))
+    let start = c.self.inside.pages.items in
+    let inside = c.loop-place.self-inside in
+    let over : inside.segment.entries ≡ [] = none_left inside.segment.entries (λ h. true_not_false (sym (c.in_default.ensures.variant.1 h))) in
+    let on = subst (Beginning start inside.pages.items) over c.loop-place.invariant.on in
+    let old : Kept = record { loaded = c.self.inside.image.now; pages = start; reached = c.self.inside.segment.entries } in
+    let new : Kept = record { loaded = inside.image.now; pages = inside.pages.items; reached = c.pop_first.new.self.entries } in
+    subst (λ (k : Kept). Begins k new) c.self.view_is (begins old new c.loop-place.invariant.same (λ label. on.begun label refl))
