@@ -1,19 +1,19 @@
 -- What a writer's calls leave, from what was put.
-use Rattle.std.proofs.Common.{◌≡◌, ℕ, zero, suc, ◌+◌, ◌-◌, ◌*◌, ◌^◌, ◌<◌, ◌≤◌, List, [], ◌∷◌, ◌++◌, length, map, Bool, true, false, Option, Result, Ok, Err, inl, inr, refl, sym, ap, subst, ◌∙◌, append_assoc, arith, nat_eq}
-use Rattle.std.specs.Prelude.{◌⊎◌, Some, None, IfSome, IfOk, OnOk, OnErr, IsErrOf, IsErrAnd, if◌then◌else◌}
+use Rattle.std.proofs.Common.{◌≡◌, ℕ, zero, suc, ◌+◌, ◌*◌, ◌^◌, ◌<◌, ◌≤◌, List, [], ◌∷◌, ◌++◌, length, map, Bool, true, false, Option, Result, Ok, Err, inl, inr, refl, sym, ap, subst, ◌∙◌, arith, nat_eq}
+use Rattle.std.specs.Prelude.{◌⊎◌, Some, None, IfSome, OnOk, IsErrAnd, if◌then◌else◌}
 use lib.Count.{count_leading_zeros}
 use Rattle.std.proofs.lemmas.Bool.{cases_lt}
 use Rattle.std.proofs.lemmas.List.{append-nil}
 use Rattle.std.proofs.Math.Pow.{pow_mono}
 use Rattle.std.proofs.lemmas.Nat.{pow_pos, pow-add, leading_top}
 use Rattle.std.proofs.lemmas.Result.{err_from_is_err_and}
-use Rattle.std.specs.List.{flat_map, AllByRecursion}
+use Rattle.std.specs.List.{flat_map}
 use Rattle.vm_host.specs.declared.HostError.{HostError}
 use Rattle.vm_host.specs.declared.HostError.TheVariants.{Failed, OutOfMemory}
 use Rattle.vm_host.specs.declared.Place.{Place}
 use Rattle.vm_host.specs.declared.Place.TheVariants.{Out}
 use Rattle.vm_host.specs.State.{HostState, then_more}
-use Rattle.vm_host.specs.Calls.{HasCause, Rose, Notes, Creates, Finishes}
+use Rattle.vm_host.specs.Calls.{Rose, Notes, Creates, Finishes}
 use Rattle.vm_trace.specs.declared.count.CountEntry.{CountEntry}
 use Rattle.vm_trace.specs.declared.page.Touched.{Touched}
 use Rattle.vm_trace.specs.Canonical.{AreTables, height_of}
@@ -24,7 +24,7 @@ use Rattle.table_format.specs.declared.item.Connector.{Connector}
 use Rattle.table_format.specs.declared.table_writer.TableWriter.{TableWriter}
 use Rattle.table_format.specs.Texts.{head_text, byte_text, rows_text, piece_text}
 use Rattle.table_format.specs.Writing.{Puts, Wrote, Begins, AreCountable, IsSegmentOf, digits, code_text, table_text, made_text}
-use Rattle.table_format.proofs.Putting.{no_error, puts_as, cause_both}
+use Rattle.table_format.proofs.Putting.{no_error, cause_both}
 
 -- all that was put was written, where nothing waits
 pub wrote : {x a b : List ℕ} {s t : HostState} (result : Result (Unit {0}) HostError) → a ≡ [] → Puts x a b s t result → OnOk result (b ≡ []) → Wrote x s t result

@@ -1,5 +1,5 @@
 -- What calls that read one item each do one after another: what was read, and where and why reading stopped.
-use Rattle.std.proofs.Common.{◌≡◌, ℕ, ◌+◌, ◌<◌, length, Bool, true, false, List, [], ◌∷◌, ◌++◌, Option, Some, None, Result, Ok, Err, sym, subst, refl, ap}
+use Rattle.std.proofs.Common.{◌≡◌, ℕ, ◌+◌, ◌<◌, nat_lt, length, Bool, true, false, List, [], ◌∷◌, ◌++◌, Option, Some, None, Result, Ok, Err, sym, subst, refl, ap}
 use Rattle.std.specs.Prelude.{IsErrAnd}
 use Rattle.std.proofs.lemmas.Result.{err_from_is_err_and}
 use Rattle.vm_host.specs.declared.Slot.TheVariants.{Second}
@@ -7,14 +7,18 @@ use Rattle.vm_host.specs.State.{HostState}
 use Rattle.vm_host.specs.Calls.{Rose}
 use Rattle.vm_host.specs.ReadUpTo.{Took}
 use Rattle.vm_host.proofs.Reading.{took_both, took_no_more}
+use Rattle.std.specs.Int.{w32, from_le_bytes}
+use Rattle.std.proofs.lemmas.Bool.{lt-ltb}
 use Rattle.std.proofs.lemmas.List.{append-nil}
+use Rattle.vm_field.specs.Field.{modulus}
 use Rattle.readings.specs.Readings.{Reading, raw, seen, both, unless, only, chain}
 use Rattle.readings.specs.declared.Stop.{Stop}
 use Rattle.readings.specs.declared.Stop.TheVariants.{Refused, Fault, OutOfMemory}
 use Rattle.readings.specs.Told.{Gave, Stops, IfRefused, IfFault, Is}
 use Rattle.readings.proofs.Gives.{state_after, gave_seen, stops_seen, gave_unless, stops_unless, refused, gave_only, stops_only, not_only, stops_first, gave_both, stops_then, none_chained, more_chained, stops_chained}
 use Rattle.table_format.specs.declared.reason.Reason.{Reason}
-use Rattle.table_format.specs.declared.reason.Reason.TheVariants.{Cut}
+use Rattle.table_format.specs.declared.reason.Reason.TheVariants.{Cut, NotCanonical}
+use Rattle.table_format.specs.Order.{element}
 use Rattle.table_format.specs.Stream.{Held, told_by, Draws, Gives, ReadsBy, bare, TakesPiece, Takes}
 use Rattle.table_format.proofs.Draws.{draws_none, draws_both, draws_given, gave_raw, stops_raw, fault_later, never_refused}
 
@@ -57,7 +61,7 @@ drew_given s count bytes is_open g = let d = draws_given s count bytes is_open g
 
 -- ---- readings made of others
 
-so_refused : (e : Stop Reason) (P Q : Reason → Type 0) → ((reason : Reason) → P reason → Q reason) → IfRefused e P → IfRefused e Q
+pub so_refused : (e : Stop Reason) (P Q : Reason → Type 0) → ((reason : Reason) → P reason → Q reason) → IfRefused e P → IfRefused e Q
 so_refused (Refused reason) P Q f h = f reason h
 so_refused Fault P Q f h = tt
 so_refused OutOfMemory P Q f h = tt
@@ -103,6 +107,12 @@ module _ {V : Type 0} {r : Reading Reason V} {a b : Held} {s t : HostState} wher
       fault = fault_later s.faults t.faults u.faults e h.draws.took.later k.fault;
       refused = so_refused e (Stops (f v) (told_by b t)) (Stops (both r f) (told_by a s)) (λ reason. stops_then r (told_by a s) (told_by b t) f v reason h.gave) k.refused;
     }
+
+-- an element whose bytes were held
+pub drew_held : {a b : Held} (s : HostState) (n : ℕ) (bytes : List ℕ) → (s.input Second).is_open ≡ true → n < modulus → n ≡ from_le_bytes w32 bytes → Gives a b 4 bytes → Drew element a b s s n
+drew_held {a} {b} s n bytes is_open low is g =
+    let told : nat_lt (from_le_bytes w32 bytes) modulus ≡ true = lt-ltb _ _ (subst (λ (k : ℕ). k < modulus) is low) in
+    subst (λ (k : ℕ). Drew element a b s s k) (sym is) (drew_only (λ k. nat_lt k modulus) NotCanonical told (drew_seen (from_le_bytes w32) (drew_given s 4 bytes is_open g)))
 
 -- memory is out, wherever
 pub memory_halts : {V : Type 0} {r : Reading Reason V} {a b : Held} {s t : HostState} → Draws a b s t → Halts r a b s t OutOfMemory

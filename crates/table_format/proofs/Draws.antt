@@ -16,7 +16,9 @@ use Rattle.readings.proofs.Exacts.{exact_raw}
 use Rattle.table_format.specs.declared.reason.Reason.{Reason}
 use Rattle.table_format.specs.declared.reason.Reason.TheVariants.{Cut}
 use Rattle.table_format.specs.Stream.{Held, told_by, Draws, Gives, ReadsBy, IsReady}
-use Rattle.table_format.proofs.Steps.{rose_later}
+
+pub rose_later : (a b c : ℕ) → a ≤ b → Rose b c → Rose a c
+rose_later a b c le rose = omega arith
 
 abbrev pub draws_none : (h : Held) (s : HostState) → (s.input Second).is_open ≡ true → Draws h h s s
 draws_none h s is_open = record { taken = []; given = []; took = took_none Second s is_open; parts = append-nil h.ahead; place = omega arith }

@@ -162,16 +162,16 @@ small_by : (version : ℕ) (b : Bool) → nat_eq version 1 ≡ b → (limits_of 
 small_by version true is = rw is (lit< tt)
 small_by version false is = rw is (lit< tt)
 
-small : (version : ℕ) → (limits_of version).greatest_code < 256
+pub small : (version : ℕ) → (limits_of version).greatest_code < 256
 small version = small_by version (nat_eq version 1) refl
 
 -- what stands behind the head of a version
-record IsBody (version : ℕ) (shape : Shape) (t : Tests) (f : File) : Type 0 where
-  segments : AllByRecursion (IsCanonicalSegment (limits_of version) shape) f.segments
-  claim : IsCanonicalClaim f
-  passes : PassesFile t f
+pub record IsBody (version : ℕ) (shape : Shape) (t : Tests) (f : File) : Type 0 where
+  pub segments : AllByRecursion (IsCanonicalSegment (limits_of version) shape) f.segments
+  pub claim : IsCanonicalClaim f
+  pub passes : PassesFile t f
 
-exact_body : (version : ℕ) (shape : Shape) (t : Tests) → Exact (body version shape t) body_text (λ f. (f.version ≡ version) × IsBody version shape t f)
+pub exact_body : (version : ℕ) (shape : Shape) (t : Tests) → Exact (body version shape t) body_text (λ f. (f.version ≡ version) × IsBody version shape t f)
 exact_body version shape t = exact_so (exact_unless (λ f. t.claim (stand_after first_stand f.segments) f)
     (exact_seen {other = body_text} {Fair = λ f. (f.version ≡ version) × (Listed (limits_of version) shape t t.most first_stand f.segments × ((f.code < 256) × (IsLeaf f.public_bytes × ((length f.path ≡ 25) × AllByRecursion IsDigest f.path))))} (file_of version)
     (exact_both (exact_listed reason.TooManySegments t.follows t.closed Order.flag flag_text (segment (limits_of version) shape t) segment_text (Good (limits_of version) shape t) next_stand exact_flag (exact_segment (limits_of version) shape t (small version)) t.most first_stand)
@@ -195,12 +195,12 @@ exact_body version shape t = exact_so (exact_unless (λ f. t.claim (stand_after 
     ))
 
 -- a version up to the greatest
-record IsVersion (greatest version : ℕ) : Type 0 where
-  first : 1 ≤ version
-  last : version ≤ greatest
-  number : IsNumber version
+pub record IsVersion (greatest version : ℕ) : Type 0 where
+  pub first : 1 ≤ version
+  pub last : version ≤ greatest
+  pub number : IsNumber version
 
-exact_head : (greatest : ℕ) → Exact (Order.head greatest) head_text (IsVersion greatest)
+pub exact_head : (greatest : ℕ) → Exact (Order.head greatest) head_text (IsVersion greatest)
 exact_head greatest = exact_seen {other = head_text} {Fair = IsVersion greatest} (λ p. p.1)
     (exact_both (exact_unless (λ m. want (same_bytes m magic) reason.Magic) (exact_raw reason.Cut 8)) (λ m h. exact_unless (λ v. want (is_version greatest v) (reason.Version v)) (exact_number reason.Cut)))
     (λ p h.
@@ -208,7 +208,7 @@ exact_head greatest = exact_seen {other = head_text} {Fair = IsVersion greatest}
     (record { first = omega (arith, ltb-true 0 p.1 v.0); last = leb-true p.1 greatest v.1; number = h.1.0 }, ap (λ (m : List ℕ). m ++ number_text p.1) (same_text _ _ (sym (want_so _ reason.Magic h.0.1)))))
     (λ v h. ((magic, v), refl, ((refl, refl), (h.number, so_want _ (reason.Version v) (and_from _ _ (lt-ltb 0 v (omega (arith, h.first))) (le-leb v greatest h.last))))))
 
-exact_file : (shape : ℕ → Shape) (t : ℕ → Tests) (greatest : ℕ) → Exact (file shape t greatest) file_text (IsPassed shape t greatest)
+pub exact_file : (shape : ℕ → Shape) (t : ℕ → Tests) (greatest : ℕ) → Exact (file shape t greatest) file_text (IsPassed shape t greatest)
 exact_file shape t greatest = exact_seen {other = file_text} {Fair = IsPassed shape t greatest} (λ p. p.1)
     (exact_both (exact_head greatest) (λ version h. exact_body version (shape version) (t version)))
     (λ p h.
@@ -257,7 +257,7 @@ rows_pass : (most : ℕ) (at : Stand) (table : ℕ) (ts : List (List (List ℕ))
 rows_pass most at table [] = tt
 rows_pass most at table (rs ∷ ts) = (each_passes next_place 0 rs, rows_pass most at (table + 1) ts)
 
-all_pass : (most : ℕ) (at : Stand) (ss : List Segment) → AllPass (no_tests most) at ss
+pub all_pass : (most : ℕ) (at : Stand) (ss : List Segment) → AllPass (no_tests most) at ss
 all_pass most at [] = refl
 all_pass most at (s ∷ ss) = (
   refl,

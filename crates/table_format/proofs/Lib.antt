@@ -1,7 +1,4 @@
 pub mod Texts
-pub mod Steps
-pub mod Entries
-pub mod Whole
 pub mod ExactItems
 pub mod ExactFile
 pub mod Pieces
@@ -10,3 +7,6 @@ pub mod Drawn
 pub mod Advancing
 pub mod Putting
 pub mod Closing
+pub mod Following
+pub mod FollowingFile
+pub mod Parts

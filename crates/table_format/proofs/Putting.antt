@@ -1,6 +1,6 @@
 -- Texts that are written one behind another.
 use Rattle.std.proofs.Common.{◌≡◌, ℕ, suc, ◌+◌, ◌≤◌, ◌<◌, List, [], ◌∷◌, ◌++◌, length, take, drop, get_or, Result, Ok, Err, refl, sym, ap, subst, ◌∙◌, append_assoc, arith}
-use Rattle.std.specs.Prelude.{Some, None, OnOk, IsErrOf, IsErrAnd}
+use Rattle.std.specs.Prelude.{Some, None, IsErrAnd}
 use Rattle.std.specs.declared.option.Option.{Option}
 use Rattle.std.specs.List.{flat_map}
 use Rattle.std.proofs.lemmas.Grind.{flat_map-append}
@@ -77,25 +77,6 @@ puts_error {x = x} {a} {b} {c} {s} {t} y e result is p =
 
 pub puts_as : {T : Type 0} {x y a b : List ℕ} {s t : HostState} {result : Result T HostError} → x ≡ y → Puts x a b s t result → Puts y a b s t result
 puts_as {a = a} {b} {s} {t} {result} e p = subst (λ (k : List ℕ). Puts k a b s t result) e p
-
--- the last text of several stopped
-pub puts_last : {T U : Type 0} {x a b c : List ℕ} {s t : HostState} (e : HostError) (result : Result U HostError) → IsErrAnd result (λ d. d ≡ e) → Puts {T = T} x a b s t (Err e) → Puts x a c s t result
-puts_last {x = x} e result is p = puts_as (append-nil x) (puts_error [] e result is p)
-
--- memory was refused before anything was written
-pub puts_memory : {T : Type 0} {x a c : List ℕ} {s : HostState} (result : Result T HostError) → IsErrAnd result (λ d. d ≡ OutOfMemory) → Puts x a c s s result
-puts_memory {x = x} {a} {c} {s} result is =
-    let k = err_from_is_err_and result is in
-    rw (k.1, k.2) (record {
-      cause = record { later = omega arith; failed = λ f. absurd cc };
-      done = [];
-      rest = a ++ x;
-      written = then_none s.output.written;
-      parts = refl;
-      waits = tt;
-      creating = refl;
-      frame = refl;
-    })
 
 -- ---- what waits
 

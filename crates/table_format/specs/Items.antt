@@ -1,5 +1,4 @@
 -- What a call that takes an item gives, as the value that its reading has, and the item of such a value.
-use Rattle.std.specs.Prelude.{ℕ, List}
 use Rattle.table_format.specs.declared.item.Bounds.{Bounds}
 use Rattle.table_format.specs.declared.item.Claim.{Claim}
 use Rattle.table_format.specs.declared.item.Item.{Item}

@@ -7,6 +7,4 @@ pub mod Items
 pub mod Reader
 pub mod ReadsItems
 pub mod Writing
-pub mod File
-pub mod Reading
-pub mod Laws
+pub mod Given

@@ -1,9 +1,6 @@
 -- What a reader gives: the items of a file in the order of its bytes, each by a reading of what stands there.
-use Rattle.std.specs.Prelude.{◌≡◌, ℕ, ◌+◌, ◌-◌, ◌<◌, ◌≤◌, ◌^◌, Bool, true, false, nat_lt, List, [], ◌∷◌, ◌++◌, length, drop, slice_index, Option, Some, None, Result, Ok, Err, if◌then◌else◌}
-use Rattle.vm_host.specs.State.{HostState}
+use Rattle.std.specs.Prelude.{◌≡◌, ℕ, ◌+◌, ◌-◌, ◌≤◌, Bool, nat_lt, List, [], ◌∷◌, ◌++◌, length, drop, slice_index, Ok, Err, if◌then◌else◌}
 use Rattle.readings.specs.Readings.{Reading, gives, seen, both, number}
-use Rattle.readings.specs.declared.Stop.{Stop}
-use Rattle.vm_trace.specs.declared.count.CountEntry.{CountEntry}
 use Rattle.vm_trace.specs.declared.count.CountList.{CountList}
 use Rattle.vm_trace.specs.declared.count.CountList.TheVariants.{Program, Xor, Range, ShaConst}
 use Rattle.vm_trace.specs.declared.count.TheConstants.{XOR_ROWS, RANGE_ROWS, SHA_ROWS}

@@ -1,16 +1,15 @@
 -- What the calls of a reader do.
-use Rattle.std.specs.Prelude.{◌≡◌, ℕ, ◌<◌, ◌≤◌, ◌^◌, Bool, List, [], length, Option, Some, None, Result, Ok, Err}
+use Rattle.std.specs.Prelude.{◌≡◌, ℕ, Bool, [], Option, Some, None, Result, Ok, Err}
 use Rattle.vm_host.specs.State.{HostState}
 use Rattle.readings.specs.Readings.{Reading}
 use Rattle.readings.specs.declared.Stop.{Stop}
-use Rattle.vm_trace.specs.Canonical.{Shape}
 use Rattle.table_format.specs.declared.item.Item.{Item}
 use Rattle.table_format.specs.declared.stage.Stage.{Stage}
 use Rattle.table_format.specs.declared.stage.Stage.TheVariants as stage
 use Rattle.table_format.specs.declared.reason.Reason.{Reason}
 use Rattle.table_format.specs.declared.table_reader.Shape.{Shape as Given}
 use Rattle.table_format.specs.declared.table_reader.TableReader.{TableReader}
-use Rattle.table_format.specs.Stream.{Held, ReadsBy, TellsEnd}
+use Rattle.table_format.specs.Stream.{ReadsBy, TellsEnd}
 use Rattle.table_format.specs.Reader.{Form, Spot, Step, item_at}
 
 abbrev pub form_of : TableReader → Form

@@ -1,6 +1,6 @@
 -- What writing does to a host's output.
 use lib.Count.{count_leading_zeros}
-use Rattle.std.specs.Prelude.{◌≡◌, ◌⊎◌, ℕ, ◌-◌, ◌^◌, ◌<◌, Bool, true, false, List, [], ◌++◌, map, length, Option, Some, None, Result, Ok, Err, IfOk, IfSome, OnOk, OnErr}
+use Rattle.std.specs.Prelude.{◌≡◌, ◌⊎◌, ℕ, ◌-◌, ◌^◌, ◌<◌, Bool, true, false, List, [], ◌++◌, length, Option, Some, None, Result, Ok, Err, IfOk, IfSome, OnOk, OnErr}
 use Rattle.vm_host.specs.declared.HostError.{HostError}
 use Rattle.vm_host.specs.declared.Place.TheVariants.{Out}
 use Rattle.vm_host.specs.State.{HostState, then_more}

@@ -2,6 +2,7 @@
 
 ghost use Rattle.std.specs.Prelude.{◌≡◌, ◌≢◌, ◌≤◌, ◌<◌, ◌↔◌, [], List, ℕ, IsTrue, MatchOption, length, take, drop, true, IfOk};
 ghost use Rattle.std.specs.Int.{w32, from_le_bytes};
+ghost use Rattle.vm_field.specs.Field.{modulus};
 ghost use Rattle.vm_host.specs.declared.Slot.TheVariants.{Second};
 ghost use Rattle.readings.specs.Readings.{raw, number};
 ghost use Rattle.readings.specs.Told.{Is};
@@ -12,6 +13,7 @@ use crate::Reason;
 use readings::Stop;
 use std::alloc::{AllocError, Global};
 use std::marker::Model;
+use vm_field::Fe;
 use vm_host::{Host, HostError, Slot};
 
 /// How many bytes are asked of the host at once.
@@ -118,6 +120,22 @@ impl Stream {
         text.copy_from_slice(&self.piece[self.at..end]);
         self.at = end;
         Some(u32::from_le_bytes(text))
+    }
+
+    // Gives the next number, where all of its bytes are held and it is that of an element. So most values of a row
+    // are read without an answer that has room for each reason.
+    pub(crate) fn held_element(&mut self) -> Option<Fe>
+        ensures { MatchOption result (self.new ≡ self.old) (λ n. (n < modulus) × ((bytes : List ℕ) × (n ≡ from_le_bytes w32 bytes) × Gives self.old self.new 4 bytes)) }
+    {
+        if self.filled - self.at < 4 {
+            return None;
+        }
+        let end = self.at + 4;
+        let mut text = [0u8; 4];
+        text.copy_from_slice(&self.piece[self.at..end]);
+        let element = Fe::new(u32::from_le_bytes(text))?;
+        self.at = end;
+        Some(element)
     }
 
     /// Fills the buffer with the next bytes.

@@ -89,7 +89,10 @@ impl Stream {
     {
         buffer.clear();
         'values: for _ in 0..width {
-            let element = self.element(host)?;
+            let element = match self.held_element() {
+                Some(element) => element,
+                None => self.element(host)?,
+            };
             buffer.push(element)?;
         }
         Ok(())

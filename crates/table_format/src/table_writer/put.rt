@@ -31,6 +31,17 @@ pub(super) fn flush<H: Host>(host: &mut H, waiting: &mut Vec<u8>) -> Result<(), 
     Ok(())
 }
 
+// Writes the bytes that wait where they fill a piece.
+fn settle<H: Host>(host: &mut H, waiting: &mut Vec<u8>) -> Result<(), HostError>
+    requires open { (H.state host.old).output.creating ≡ true }
+    ensures { Puts [] waiting.old.items waiting.new.items (H.state host.old) (H.state host.new) result }
+{
+    if waiting.len() < PIECE {
+        return Ok(());
+    }
+    flush(host, waiting)
+}
+
 pub(super) fn put<H: Host>(
     host: &mut H,
     waiting: &mut Vec<u8>,
@@ -40,10 +51,7 @@ pub(super) fn put<H: Host>(
     ensures { Puts bytes.now waiting.old.items waiting.new.items (H.state host.old) (H.state host.new) result }
 {
     waiting.extend_from_slice(bytes)?;
-    if waiting.len() < PIECE {
-        return Ok(());
-    }
-    flush(host, waiting)
+    settle(host, waiting)
 }
 
 pub(super) fn put_number<H: Host>(
@@ -97,9 +105,9 @@ pub(super) fn put_row<H: Host>(
     ensures { Puts (flat_map number_text row.now) waiting.old.items waiting.new.items (H.state host.old) (H.state host.new) result }
 {
     'values: for value in row {
-        put_number(host, waiting, value.value())?;
+        waiting.extend_from_slice(&number_bytes(value.value()))?;
     }
-    Ok(())
+    settle(host, waiting)
 }
 
 pub(super) fn put_numbers<H: Host>(
@@ -111,9 +119,9 @@ pub(super) fn put_numbers<H: Host>(
     ensures { Puts (flat_map number_text numbers.now) waiting.old.items waiting.new.items (H.state host.old) (H.state host.new) result }
 {
     'values: for number in numbers {
-        put_number(host, waiting, *number)?;
+        waiting.extend_from_slice(&number_bytes(*number))?;
     }
-    Ok(())
+    settle(host, waiting)
 }
 
 pub(super) fn put_digests<H: Host>(

@@ -1,29 +1,45 @@
-use Rattle.std.proofs.Common.{◌≡◌, ◌∷◌, [], refl, subst, arith, length-append}
+use Rattle.std.proofs.Common.{Err, ◌≡◌, ◌∷◌, [], refl, subst, arith, length-append}
 use Rattle.table_format.specs.Order.{element, elements, next_place}
-use Rattle.table_format.proofs.Drawn.{Drew, drew_is, drew_none, drew_more, drew_answers, halts_of, halts_chained, halts_answers, memory_halts}
+use Rattle.readings.specs.Told.{Is}
+use Rattle.table_format.specs.Stream.{ReadsBy}
+use Rattle.table_format.proofs.Drawn.{Drew, drew_is, drew_none, drew_more, drew_held, drew_answers, halts_of, halts_chained, halts_answers, memory_halts}
 use Rattle.table_format.proofs.Draws.{draws_both}
+use Rattle.table_format.proofs.stream.Stream.row.Goals.{in-Some, in-None+in_ok-element-in-None}
 use Rattle.table_format.proofs.stream.Stream.row.Goals as goal
 
 pub values-init : goal.values-init
 values-init g c = record { drew = rw c.clear.ensures.items (drew_none (λ i. element) next_place 0 c.args.self.now (g.H.Host.state c.args.host.now) c.requires.open); wide = rw c.clear.ensures.items refl }
 
-pub element-requires : goal.element-requires
-element-requires g c = record { «open» = c.values.invariant.drew.draws.took.is_open }
-
-pub returns-in_err-element-clause-reads : goal.returns-in_err-element-clause-reads
-returns-in_err-element-clause-reads g c =
-    halts_answers c.from_residual.result c.from_residual.ensures.1 (halts_chained (λ i. element) next_place 0 c.values.counter c.args.width c.values-test.true c.values.invariant.drew (halts_of c.in_err-element.ensures))
+pub returns-in_err-element-in-None-clause-reads : goal.returns-in_err-element-in-None-clause-reads
+returns-in_err-element-in-None-clause-reads g c =
+    halts_answers c.from_residual.result c.from_residual.ensures.1 (halts_chained (λ i. element) next_place 0 c.values.counter c.args.width c.values-test.true c.values.invariant.drew (halts_of (subst (λ k. ReadsBy element Is k c.element.new.self (g.H.Host.state c.values.host) (g.H.Host.state c.element.new.host) (Err c.in_err-element-in-None.field-0.0)) c.in-None.ensures c.in_err-element-in-None.ensures)))
 
 pub returns-in_err-push-clause-reads : goal.returns-in_err-push-clause-reads
 returns-in_err-push-clause-reads g c =
-    halts_answers c.from_residual-in_err-push.result c.from_residual-in_err-push.ensures.1 (memory_halts (draws_both c.values.invariant.drew.draws c.in_ok-element.ensures.kept))
+    let s = g.H.Host.state c.values.host in
+    let drew : Drew element c.values.self c.match-held_element.self s (g.H.Host.state c.match-held_element.host) c.match-held_element.element =
+    elim c.match-held_element.branch [
+      | in-Some w ↦ let h = w.in-Some.ensures in rw (w.self-is, w.host-is, w.element-is) (drew_held s w.in-Some.element h.1.0 c.values.invariant.drew.draws.took.is_open h.0 h.1.1 h.1.2)
+      | in-None+in_ok-element-in-None w ↦
+          rw (w.self-is, w.host-is, w.element-is)
+          (subst (λ k. Drew element k w.element.new.self s (g.H.Host.state w.element.new.host) w.in_ok-element-in-None.element) w.in-None.ensures (drew_is w.in_ok-element-in-None.ensures))
+    ] in
+    halts_answers c.from_residual-in_err-push.result c.from_residual-in_err-push.ensures.1 (memory_halts (draws_both c.values.invariant.drew.draws drew.draws))
 
 pub values-preserved : goal.values-preserved
 values-preserved g c =
     let i = c.values.invariant in
+    let s = g.H.Host.state c.values.host in
+    let drew : Drew element c.values.self c.match-held_element.self s (g.H.Host.state c.match-held_element.host) c.match-held_element.element =
+    elim c.match-held_element.branch [
+      | in-Some w ↦ let h = w.in-Some.ensures in rw (w.self-is, w.host-is, w.element-is) (drew_held s w.in-Some.element h.1.0 c.values.invariant.drew.draws.took.is_open h.0 h.1.1 h.1.2)
+      | in-None+in_ok-element-in-None w ↦
+          rw (w.self-is, w.host-is, w.element-is)
+          (subst (λ k. Drew element k w.element.new.self s (g.H.Host.state w.element.new.host) w.in_ok-element-in-None.element) w.in-None.ensures (drew_is w.in_ok-element-in-None.ensures))
+    ] in
     record {
-      drew = rw c.in_ok-push.ensures.items (drew_more (λ i. element) next_place 0 c.values.counter i.drew (drew_is c.in_ok-element.ensures));
-      wide = rw c.in_ok-push.ensures.items (omega (arith, length-append c.values.buffer.items (c.in_ok-element.element ∷ []), i.wide));
+      drew = rw c.in_ok-push.ensures.items (drew_more (λ i. element) next_place 0 c.values.counter i.drew drew);
+      wide = rw c.in_ok-push.ensures.items (omega (arith, length-append c.values.buffer.items (c.match-held_element.element ∷ []), i.wide));
     }
 
 pub returns-clause-reads : goal.returns-clause-reads

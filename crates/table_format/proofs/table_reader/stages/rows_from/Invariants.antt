@@ -1,4 +1,4 @@
-use Rattle.std.proofs.Common.{◌≡◌, ◌-◌, ◌≤◌, length}
+use Rattle.std.proofs.Common.{◌≡◌, ◌-◌, length}
 use Rattle.table_format.specs.Reader.{rows_from}
 use Rattle.table_format.proofs.table_reader.stages.rows_from.Given as goal
 

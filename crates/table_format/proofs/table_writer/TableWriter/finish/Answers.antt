@@ -1,5 +1,5 @@
 use Rattle.std.proofs.Common.{refl}
-use Rattle.table_format.specs.Writing.Appends.{again, first}
+use Rattle.table_format.specs.Writing.Appends.{again}
 use Rattle.table_format.proofs.table_writer.TableWriter.finish.Goals as goal
 
 pub returns-in-Some : goal.returns-in-Some

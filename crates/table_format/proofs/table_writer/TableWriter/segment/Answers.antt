@@ -1,5 +1,4 @@
 use Rattle.std.proofs.Common.{List, ℕ, true, false, subst}
-use Rattle.table_format.specs.Texts.{piece_text}
 use Rattle.table_format.specs.Writing.{Appends}
 use Rattle.table_format.proofs.Closing.{made_is, countable}
 use Rattle.table_format.proofs.table_writer.TableWriter.segment.Goals as goal

@@ -1,5 +1,4 @@
 use Rattle.std.proofs.Common.{◌++◌}
-use Rattle.std.specs.List.{flat_map}
 use Rattle.table_format.proofs.Putting.{puts_both, puts_error}
 use Rattle.table_format.specs.Texts.{entry_text, counted_text}
 use Rattle.table_format.proofs.table_writer.parts.put_counts.Goals as goal

@@ -1,4 +1,4 @@
-use Rattle.std.proofs.Common.{refl, ap, sym, take, ◌∙◌, arith}
+use Rattle.std.proofs.Common.{ap}
 use Rattle.std.specs.List.{flat_map}
 use Rattle.std.proofs.lemmas.List.{take_all}
 use Rattle.table_format.proofs.Putting.{puts_none, puts_more, puts_stops, puts_as}

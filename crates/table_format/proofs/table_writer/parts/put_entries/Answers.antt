@@ -1,4 +1,3 @@
-use Rattle.std.proofs.Common.{◌++◌}
 use Rattle.std.specs.List.{flat_map}
 use Rattle.table_format.proofs.Putting.{puts_both, puts_error}
 use Rattle.table_format.specs.Texts.{entry_text}

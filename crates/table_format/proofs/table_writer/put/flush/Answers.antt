@@ -1,4 +1,3 @@
-use Rattle.std.proofs.Common.{refl}
 use Rattle.table_format.proofs.Putting.{puts_piece, puts_refused}
 use Rattle.table_format.proofs.table_writer.put.flush.Goals as goal
 

@@ -1,5 +1,3 @@
-use Rattle.std.proofs.Common.{◌++◌}
-use Rattle.std.specs.List.{flat_map}
 use Rattle.table_format.proofs.Putting.{puts_both, puts_error}
 use Rattle.table_format.specs.Texts.{number_text}
 use Rattle.table_format.proofs.table_writer.writing.put_head.Goals as goal

@@ -1,4 +1,3 @@
-use Rattle.std.proofs.Common.{◌∙◌}
 use Rattle.std.proofs.lemmas.List.{append-nil}
 use Rattle.table_format.proofs.Putting.{puts_both, puts_as}
 use Rattle.table_format.proofs.Closing.{wrote_part, wrote_closed, closed}
