@@ -106,7 +106,7 @@ module _ (x : System) (image : Loaded) (limits : Limits) where
   pc_after at [] = refl
   pc_after at (s ∷ ss) = pc_after (next_stand at s) ss
 
-  root_after : (at : Stand) (ss : List Segment) → (start_behind image (stand_after at ss).before).root ≡ last_root (start_behind image at.before).root ss
+  pub root_after : (at : Stand) (ss : List Segment) → (start_behind image (stand_after at ss).before).root ≡ last_root (start_behind image at.before).root ss
   root_after at [] = refl
   root_after at (s ∷ ss) = root_after (next_stand at s) ss
 

@@ -1,12 +1,4 @@
-pub mod Lookups
-pub mod Rows
-pub mod Runs
-pub mod Verdicts
-pub mod Ends
-pub mod Balances
-pub mod Holding
 pub mod Judging
-pub mod Nop
 pub mod SegmentTests
 pub mod FileTests
 pub mod FixedRows
@@ -17,3 +9,9 @@ pub mod RowsTaken
 pub mod CountsTaken
 pub mod InsideTaken
 pub mod SegmentRead
+pub mod Bridge
+pub mod Marks
+pub mod ChainTaken
+pub mod OneVerdict
+pub mod Reorders
+pub mod WholeTaken

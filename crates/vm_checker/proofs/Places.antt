@@ -1,5 +1,6 @@
 -- Where loops over numbered items stand.
 use Rattle.std.proofs.Common.{◌≡◌, ℕ, zero, suc, ◌+◌, ◌*◌, ◌^◌, ◌<◌, ◌≤◌, List, [], ◌∷◌, length, get_or, drop, refl, subst, ◌∙◌, arith}
+use Rattle.std.specs.List.{AllByRecursion}
 use Rattle.std.proofs.Math.Pow.{pow_mono}
 use Rattle.std.proofs.lemmas.Nat.{mul-le}
 use Rattle.std.proofs.lemmas.List.{drop_more}
@@ -50,3 +51,11 @@ add_small sum i more small below = omega (arith, small, below)
 
 pub product_small : (a b : ℕ) → a ≤ 2 ^ 24 → b < 2 ^ 32 → a * b ≤ 2 ^ 56
 product_small a b small below = mul-le a b (2 ^ 24) (2 ^ 32) small (omega (arith, below))
+
+-- ---- what holds of each
+
+module _ {X : Type 0} (P : X → Type 0) where
+  pub all_at_place : (xs : List X) (i : ℕ) (d : X) → AllByRecursion P xs → i < length xs → P (get_or xs i d)
+  all_at_place [] i d all low = absurd (omega (arith, low))
+  all_at_place (x ∷ xs) zero d all low = all.0
+  all_at_place (x ∷ xs) (suc i) d all low = all_at_place xs i d all.1 (omega (arith, low))

@@ -39,13 +39,6 @@ tallied_both {first = first} {second} {old} {mid} {new} f g a b = record {
   hints = λ rows. hints_both first second a.found b.found (a.hints (f rows)) (b.hints (g rows));
 }
 
-pub tallied_so : {A B : Type 0} {said : List (List Event)} {old new : Tally} → (B → A) → Tallied A said old new → Tallied B said old new
-tallied_so f a = record { heard = a.heard; valid = a.valid; found = a.found; kept = a.kept; hints = λ rows. a.hints (f rows) }
-
--- it still holds a list
-pub still_heard : {A : Type 0} {said : List (List Event)} {old new : Tally} → (events : List Event) × Hears old.said events → Tallied A said old new → (events : List Event) × Hears new.said events
-still_heard {said = said} h a = (h.0 ++ joined said, a.heard.lists h.0 h.1)
-
 -- ---- one row
 
 -- some event is on the execution bus exactly where their number rises

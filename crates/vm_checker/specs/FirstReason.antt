@@ -1,15 +1,16 @@
 -- Why a file of tables is rejected: the tests that a check makes beside those of the file's form, item by item. Behind
 -- which item each of them stands says the form's `Order`.
-use Rattle.std.specs.Prelude.{ℕ, ◌+◌, ◌-◌, ◌*◌, ◌^◌, ◌==◌, Bool, true, false, ◌&&◌, ◌||◌, not, nat_eq, nat_lt, nat_le, find, List, [], ◌∷◌, slice_index, Option, Some, None, is_some, if◌then◌else◌}
+use Rattle.std.specs.Prelude.{ℕ, ◌+◌, ◌-◌, ◌*◌, ◌^◌, ◌==◌, Bool, true, false, ◌&&◌, ◌||◌, not, nat_eq, nat_lt, nat_le, find, List, [], ◌∷◌, length, map, slice_index, Option, Some, None, is_some, if◌then◌else◌}
 use Rattle.std.specs.Option.{option_map, option_or, option_and_then}
 use Rattle.elf_image.specs.Loaded.{Loaded}
-use Rattle.readings.specs.Readings.{first_reason}
+use Rattle.readings.specs.Readings.{Reading, rest_at, reason_in, first_reason}
 use Rattle.vm_isa.specs.declared.instr.VmInstr.{VmInstr}
 use Rattle.vm_isa.specs.declared.opcode.TheConstants.{TERMINATE}
 use Rattle.vm_trace.specs.declared.page.TheConstants.{REGISTER_LABEL, MEMORY_LABEL, PUBLIC_LABEL}
 use Rattle.vm_trace.specs.declared.page.Touched.{Touched}
-use Rattle.vm_trace.specs.Canonical.{height_of}
+use Rattle.vm_trace.specs.Canonical.{Shape, height_of}
 use Rattle.vm_trace.specs.File.{Segment, File}
+use Rattle.vm_trace.specs.Limits.{limits_of}
 use Rattle.vm_transpile.specs.Program.{program_of}
 use Rattle.air_core.specs.declared.event.Event.{Event}
 use Rattle.air_core.specs.First.{first_from}
@@ -25,7 +26,7 @@ use Rattle.acceptance.specs.Accepts.{shape_of}
 use Rattle.acceptance.specs.Events.{segment_events}
 use Rattle.table_format.specs.declared.reason.Reason.{Reason}
 use Rattle.table_format.specs.declared.reason.Reason.TheVariants as reason
-use Rattle.table_format.specs.Order.{want, same_bytes, PageAt, Stand, Tests, no_tests, file}
+use Rattle.table_format.specs.Order.{want, same_bytes, PageAt, Stand, Tests, no_tests, segment, body, file}
 use Rattle.vm_checker.specs.declared.Before.{Before}
 
 -- ---- a segment by itself
@@ -116,6 +117,15 @@ segment_tests x program start = record (no_tests 4096) {
   segment = λ at. whole_test program (start at) at.number;
 }
 
+-- what a segment is read against
+abbrev pub shape_over : System → List VmInstr → Shape
+shape_over x program = record { widths = map (λ (p : Part). p.sheet.width) x.parts; program_len = length program }
+
+-- a segment of a version, behind its mark, by its number and where it is to begin
+abbrev pub segment_alone : System → List VmInstr → ℕ → Option Before → ℕ → Reading Reason Segment
+segment_alone x program version start place =
+    segment (limits_of version) (shape_over x program) (segment_tests x program (λ at. start)) (record { number = place; before = [] })
+
 -- ---- a file
 
 -- the last segment says that it ends
@@ -123,19 +133,31 @@ abbrev pub says_end : List Segment → Bool
 says_end [] = false
 says_end (s ∷ before) = s.ends
 
+-- no segment may follow one that says that it ends
+abbrev pub early_test : Bool → ℕ → Option Reason
+early_test ended number = want (not ended) (reason.EarlyEnd (number - 1))
+
+-- and one must follow any other
+abbrev pub open_test : Bool → Option Reason
+open_test ended = want ended reason.NoEnd
+
 abbrev pub follows_test : Stand → Option Reason
-follows_test at = want (not (says_end at.before)) (reason.EarlyEnd (at.number - 1))
+follows_test at = early_test (says_end at.before) at.number
 
 abbrev pub closed_test : Stand → Option Reason
-closed_test at = want (says_end at.before) reason.NoEnd
+closed_test at = open_test (says_end at.before)
 
 -- where it ends there is a TERMINATE, since the segment's own test has passed
 abbrev pub code_test : Option ℕ → ℕ → Option Reason
 code_test None stated = Some reason.NoEnd
 code_test (Some found) stated = want (nat_eq stated found) (reason.ExitCode stated found)
 
+-- the path of the public bytes leads to the last root
+abbrev pub path_test : List ℕ → List ℕ → List (List ℕ) → Option Reason
+path_test end public path = want (same_bytes (climb PUBLIC_LABEL public path) end) reason.Public
+
 abbrev pub public_test : List ℕ → File → Option Reason
-public_test end f = want (same_bytes (climb PUBLIC_LABEL f.public_bytes f.path) end) reason.Public
+public_test end f = path_test end f.public_bytes f.path
 
 abbrev pub claim_test : Loaded → Stand → File → Option Reason
 claim_test image at f =
@@ -147,6 +169,10 @@ file_tests x image = record (segment_tests x (program_of image) (λ at. Some (st
   closed = closed_test;
   claim = claim_test image;
 }
+
+-- the first test that fails of what stands behind the head of a file of this version
+abbrev pub body_rejection : System → Loaded → ℕ → List ℕ → Option Reason
+body_rejection x image version bytes = reason_in reason.Trailing (body version (shape_of x image) (file_tests x image) (rest_at 12 bytes))
 
 -- The first test that fails of a file over an image, of a version up to the greatest. What each version is read against
 -- is the extension that belongs to it.

@@ -1,10 +1,12 @@
 -- The items of a segment with the tests that a check makes of each, as the code reads them.
-use Rattle.std.specs.Prelude.{ℕ, List, ◌++◌, flat_map, length, slice_index, Option}
+use Rattle.std.specs.Prelude.{ℕ, Bool, List, ◌++◌, flat_map, length, slice_index, nat_eq, if◌then◌else◌, Option, Some}
 use Rattle.std.specs.Option.{option_or}
-use Rattle.readings.specs.Readings.{Reading, seen, both, unless, chain, number}
+use Rattle.elf_image.specs.Loaded.{Loaded}
+use Rattle.readings.specs.Readings.{Reading, seen, both, unless, by_mark, chain, listed, number}
 use Rattle.vm_isa.specs.declared.instr.VmInstr.{VmInstr}
 use Rattle.vm_trace.specs.declared.page.Touched.{Touched}
-use Rattle.vm_trace.specs.File.{Segment}
+use Rattle.vm_trace.specs.File.{Segment, File}
+use Rattle.vm_trace.specs.Limits.{limits_of}
 use Rattle.vm_trace.specs.Canonical.{height_of}
 use Rattle.air_core.specs.declared.event.Event.{Event}
 use Rattle.air_core.specs.System.{System, all_events, sheet_at}
@@ -12,10 +14,11 @@ use Rattle.exec_path.specs.PathEvents.{connector_events}
 use Rattle.offline_memory.specs.MemoryEvents.{boundary_events}
 use Rattle.table_format.specs.declared.reason.Reason.{Reason}
 use Rattle.table_format.specs.declared.reason.Reason.TheVariants as reason
-use Rattle.table_format.specs.Order.{Bounds, Counts, PageAt, bounds, counts, segment_of, next_place, next_page, first_page, elements, digest, height_code, list, touched}
+use Rattle.acceptance.specs.Accepts.{shape_of}
+use Rattle.table_format.specs.Order.{Bounds, Counts, PageAt, bounds, claim, counts, segment, segment_of, next_place, next_page, first_page, first_stand, next_stand, stand_after, elements, digest, file_of, flag, height_code, list, touched}
 use Rattle.table_format.specs.declared.item.Bounds.{Bounds as Found}
 use Rattle.vm_checker.specs.declared.Before.{Before}
-use Rattle.vm_checker.specs.FirstReason.{slots_test, row_test, page_test, balance_test, number_test, start_root_test, end_root_test, start_pc_test, end_test, whole_test}
+use Rattle.vm_checker.specs.FirstReason.{claim_test, closed_test, early_test, file_tests, follows_test, open_test, slots_test, row_test, page_test, balance_test, number_test, start_root_test, end_root_test, start_pc_test, end_test, whole_test}
 use Rattle.vm_checker.specs.Kept.{counts_said}
 
 abbrev pub code_list : ℕ → ℕ → ℕ → Reading Reason (List ℕ)
@@ -71,3 +74,21 @@ bounds_test program before segment b pages siblings =
 abbrev pub segment_by : ℕ → System → List VmInstr → Option Before → ℕ → Reading Reason Segment
 segment_by greatest x program before segment = unless (whole_test program before segment) (seen segment_of
     (both bounds (λ h. both (codes_of x greatest segment) (λ cs. inside_of x program segment h cs))))
+
+-- ---- one segment after another
+
+-- behind so many segments one more may follow
+abbrev pub more_test : Bool → ℕ → Option Reason
+more_test ended number = if nat_eq number 4096 then Some reason.TooManySegments else early_test ended number
+
+-- a mark, behind so many segments of which the last says that it ends or doesn't
+abbrev pub mark_of : Bool → ℕ → Reading Reason Bool
+mark_of ended number = unless (by_mark (more_test ended number) (open_test ended)) flag
+
+abbrev pub segments_of : System → Loaded → ℕ → Reading Reason (List Segment)
+segments_of x image version =
+    listed reason.TooManySegments follows_test closed_test flag (segment (limits_of version) (shape_of x image) (file_tests x image)) next_stand 4096 first_stand
+
+abbrev pub body_of : System → Loaded → ℕ → Reading Reason File
+body_of x image version =
+    unless (λ f. claim_test image (stand_after first_stand f.segments) f) (seen (file_of version) (both (segments_of x image version) (λ ss. claim)))

@@ -1,6 +1,4 @@
-pub mod Accepts
 pub mod Verdicts
-pub mod Laws
 pub mod FirstReason
 pub mod Exactly
 pub mod Heard
@@ -8,3 +6,6 @@ pub mod Kept
 pub mod Items
 pub mod Inside
 pub mod Facts
+pub mod Chain
+pub mod Body
+pub mod Reordered

@@ -1,17 +1,17 @@
 //! Whether a stored table file states a run of a program.
 //!
-//! Files are of version 0: one table of no-operations, one segment, and no memory.
+//! A file is read item by item and tested as it is read. No row of it is kept.
 #![tactic(auto)]
 
-ghost use Rattle.std.specs.Prelude.{◌≡◌, true};
-ghost use Rattle.vm_host.specs.State.{HostState};
+ghost use Rattle.std.specs.Prelude.{◌≡◌, ◌≤◌, true};
 ghost use Rattle.vm_host.specs.declared.Slot.TheVariants.{Second};
-ghost use Rattle.vm_checker.specs.Accepts.{IsPathTable};
-ghost use Rattle.vm_checker.specs.Verdicts.{Checks, verdict_of};
+ghost use Rattle.vm_trace.specs.Limits.{limits_of};
+ghost use Rattle.vm_checker.specs.Body.{answer_to, verdict_of};
+ghost use Rattle.vm_checker.specs.Verdicts.{Checks, JudgesBody, JudgesFile};
 
-mod accept;
+mod body;
+mod chain;
 mod counts;
-mod events;
 mod fixed;
 mod heights;
 mod hints;
@@ -24,14 +24,22 @@ mod tables;
 mod tally;
 mod whole;
 
-use accept::accepts;
-use air_core::Chip;
+use acceptance::laws::{accepted_files_are_runs, accepted_files_spell_hints};
+use air_core::Extension;
+use body::take_whole;
 use elf_image::Image;
 pub use hints::HintBytes;
+use page_tree::Digest;
+use readings::Stop;
+pub use segment::{SegmentFacts, check_segment};
 use std::alloc::Global;
-use table_format::{TableError, read_file};
+use table_format::Stream;
+pub use table_format::{Reason, read_head};
 use vm_host::{Host, HostError};
 use vm_transpile::transpile;
+
+/// How many bytes the head of a file has.
+const HEAD_LENGTH: u64 = 12;
 
 /// What an accepted file says of the run.
 #[derive(Debug, Drop)]
@@ -40,6 +48,8 @@ pub struct Accepted {
     pub code: u8,
     /// The bytes that the run makes public.
     pub public: [u8; 64],
+    /// The root of the tree of pages at its end.
+    pub root: Digest,
     /// In how many segments the run was cut.
     pub segments: u32,
     /// The hint bytes that the run takes, in order.
@@ -50,61 +60,72 @@ pub struct Accepted {
 #[derive(Clone, Copy, Debug, PartialEq, Eq)]
 pub struct Before {
     /// The root of the tree of pages.
-    pub root: [u8; 32],
+    pub root: Digest,
     pub pc: u32,
-}
-
-/// Why a file was rejected.
-#[derive(Clone, Copy, Debug, PartialEq, Eq)]
-pub enum Reason {
-    /// The bytes are no table file.
-    File,
-    /// A row, the balance of the buses, the start or the end isn't as it must be.
-    Claim,
 }
 
 #[derive(Debug, Drop)]
 pub enum Verdict {
     Accepted(Accepted),
+    /// The first test that fails, in the order of the file.
     Rejected(Reason),
 }
 
-/// Checks the table file in the host's second input against the program of an image.
-///
-/// The table's rows may say something on the execution bus and the program bus alone. Nothing else is
-/// balanced, so a table with memory accesses or lookups could say there what it likes.
-pub fn check<C: Chip, H: Host>(
-    alloc: Global,
-    chip: &C,
-    image: &Image,
-    host: &mut H,
-) -> Result<Verdict, HostError>
-    requires table { IsPathTable (C.sheet chip.now) }
-    requires open { ((H.state host.old).input Second).is_open ≡ true }
-    ensures { Checks (C.sheet chip.now) image.now (H.state host.old) (H.state host.new) result }
+// A refusal is a verdict.
+fn verdict_of(stop: Stop<Reason>) -> Result<Verdict, HostError>
+    ensures { result ≡ verdict_of stop }
 {
-    image.is_of_a_file();
-    let program = transpile(alloc, image)?;
-    match read_file(alloc, host, program.len()) {
-        Ok(file) => {
-            let accepted = accepts(alloc, chip, image.entry(), &program, &file)?;
-            Ok(judge(alloc, accepted, file.exit_code))
-        }
-        Err(TableError::Refused) => Ok(Verdict::Rejected(Reason::File)),
-        Err(TableError::Host(error)) => Err(error),
+    match stop {
+        Stop::Refused(reason) => Ok(Verdict::Rejected(reason)),
+        Stop::Fault => Err(HostError::Failed),
+        Stop::OutOfMemory => Err(HostError::OutOfMemory),
     }
 }
 
-fn judge(alloc: Global, accepted: bool, code: u8) -> Verdict
-    ensures { result ≡ verdict_of accepted code }
+fn answer_to(read: Result<Accepted, Stop<Reason>>) -> Result<Verdict, HostError>
+    ensures { result ≡ answer_to read }
 {
-    if !accepted {
-        return Verdict::Rejected(Reason::Claim);
+    match read {
+        Ok(accepted) => Ok(Verdict::Accepted(accepted)),
+        Err(stop) => verdict_of(stop),
     }
-    Verdict::Accepted(Accepted {
-        code,
-        public: [0; 64],
-        segments: 1,
-        hints: HintBytes::of(Vec::new(alloc)),
-    })
+}
+
+/// Checks the rest of the host's second input as what stands behind the head of a file of a version, against the
+/// program of an image. The extension keeps the times of that version.
+pub fn check_body<E: Extension, H: Host>(
+    alloc: Global,
+    ext: &E,
+    version: u32,
+    image: &Image,
+    host: &mut H,
+) -> Result<Verdict, HostError>
+    requires open { ((H.state host.old).input Second).is_open ≡ true }
+    requires first { 1 ≤ version }
+    requires times { (E.system ext.now).time_bits ≡ (limits_of version).time_bits }
+    ensures { Checks (JudgesBody (E.system ext.now) image.now version) (H.state host.old) (H.state host.new) result }
+{
+    image.is_of_a_file();
+    accepted_files_are_runs::<E>();
+    accepted_files_spell_hints::<E>();
+    let program = transpile(alloc, image)?;
+    let mut stream = Stream::new(alloc, HEAD_LENGTH)?;
+    answer_to(take_whole(alloc, &mut stream, host, ext, version, image, &program))
+}
+
+/// Checks the table file of version 1 in the host's second input against the program of an image.
+pub fn check<E: Extension, H: Host>(
+    alloc: Global,
+    ext: &E,
+    image: &Image,
+    host: &mut H,
+) -> Result<Verdict, HostError>
+    requires open { ((H.state host.old).input Second).is_open ≡ true }
+    requires times { (E.system ext.now).time_bits ≡ 24 }
+    ensures { Checks (JudgesFile (E.system ext.now) image.now) (H.state host.old) (H.state host.new) result }
+{
+    match read_head(host, 1) {
+        Ok(version) => check_body(alloc, ext, version, image, host),
+        Err(stop) => verdict_of(stop),
+    }
 }

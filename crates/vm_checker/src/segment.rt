@@ -12,7 +12,8 @@ ghost use Rattle.air_core.specs.Sink.{Handed};
 ghost use Rattle.exec_path.specs.PathEvents.{connector_events};
 ghost use Rattle.vm_checker.specs.Heard.{Hears, room_left};
 ghost use Rattle.vm_checker.specs.Facts.{AreFacts, IsSegment, code_at};
-ghost use Rattle.vm_checker.specs.Items.{inside_of, segment_by};
+ghost use Rattle.vm_checker.specs.FirstReason.{segment_alone};
+ghost use Rattle.vm_checker.specs.Items.{inside_of};
 ghost use Rattle.vm_checker.specs.Inside.{IsInside};
 
 use crate::Before;
@@ -174,23 +175,22 @@ pub fn check_segment<E: Extension, H: Host>(
     before: Option<Before>,
 ) -> Result<SegmentFacts, Stop<Reason>>
     requires open { ((H.state host.old).input Second).is_open ≡ true }
-    ensures { ReadsBy (segment_by (limits_of version).greatest_code (E.system ext.now) program.now before place) (IsSegment (E.system ext.now) program.now)
+    ensures { ReadsBy (segment_alone (E.system ext.now) program.now version before place) (IsSegment (E.system ext.now) program.now)
         stream.old stream.new (H.state host.old) (H.state host.new) result }
 {
     let bounds = stream.bounds(host)?;
     let codes = take_codes(alloc, stream, host, ext, greatest_code(version), place)?;
     let inside = take_inside(alloc, stream, host, ext, program, &bounds, &codes, place)?;
-    let reason = whole_reason(
+    if let Some(reason) = whole_reason(
         program,
         before,
         place,
         &bounds,
         &inside.pages,
         &inside.siblings,
-    );
-    let facts = facts_of(alloc, program, &bounds, &inside.tally)?;
-    match reason {
-        Some(reason) => Err(Stop::Refused(reason)),
-        None => Ok(facts),
+    ) {
+        return Err(Stop::Refused(reason));
     }
+    let facts = facts_of(alloc, program, &bounds, &inside.tally)?;
+    Ok(facts)
 }

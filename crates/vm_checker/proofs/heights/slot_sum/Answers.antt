@@ -1,6 +1,5 @@
 use Rattle.std.proofs.Common.{◌^◌, ◌<◌, ◌≤◌, length, slice_index, rules, arith}
-use Rattle.vm_checker.proofs.Holding.{all_at_place}
-use Rattle.vm_checker.proofs.Places.{slots_more, slots_step, add_small, product_small, height_small}
+use Rattle.vm_checker.proofs.Places.{all_at_place, slots_more, slots_step, add_small, product_small, height_small}
 use Rattle.vm_checker.proofs.heights.slot_sum.Goals as goal
 
 pub loop-table-preserved : goal.loop-table-preserved

@@ -1,4 +1,4 @@
-use Rattle.vm_checker.proofs.Verdicts.{verdict_is_one}
+use Rattle.vm_checker.proofs.OneVerdict.{verdict_is_one}
 use Rattle.vm_checker.proofs.laws.verdict_is_one.Goals as goal
 
 pub returns : goal.returns

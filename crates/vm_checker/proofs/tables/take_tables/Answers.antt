@@ -2,8 +2,7 @@ use Rattle.std.proofs.Common.{ℕ, ◌+◌, ◌*◌, ◌^◌, ◌<◌, ◌≤◌
 use Rattle.table_format.proofs.Drawn.{Drew, Halts, drew_of, halts_of, halts_answers}
 use Rattle.vm_checker.specs.Heard.{room_left}
 use Rattle.vm_checker.specs.Items.{rows_of}
-use Rattle.vm_checker.proofs.Holding.{all_at_place}
-use Rattle.vm_checker.proofs.Places.{height_small}
+use Rattle.vm_checker.proofs.Places.{all_at_place, height_small}
 use Rattle.vm_checker.proofs.RowsTaken.{no_tables, one_table, table_halts}
 use Rattle.vm_checker.proofs.tables.take_tables.Goals as goal
 
