@@ -1,0 +1,8 @@
+//! What the tables are. The law is what a function with an empty body ensures.
+
+ghost use Rattle.vm_config.specs.Laws.{FullIsTheTables};
+
+/// Law: there are seventeen tables with these slots, columns and opcodes, and no instruction but TERMINATE is without one.
+pub fn full_is_the_tables()
+    ensures { FullIsTheTables }
+{}
