@@ -1,98 +1,92 @@
--- What follows from the contract of the top call for `check`.
-use Rattle.std.proofs.Common.{◌≡◌, ℕ, List, refl, sym, ap, ◌∙◌, subst, Some, arith}
+-- What status 0 of `check` says.
+use Rattle.std.proofs.Common.{◌≡◌, ℕ, List, [], ◌∷◌, length, true, refl, sym, ap, ◌∙◌, subst, Some}
 use Rattle.std.specs.declared.option.Option.{Option}
 use Rattle.std.specs.Option.{option_map}
-use Rattle.std.specs.Prelude.{true, [], replicate}
+use Rattle.hex.specs.Hex.{encode_lower}
 use Rattle.vm_host.specs.declared.Slot.{Slot}
 use Rattle.vm_host.specs.declared.Slot.TheVariants.{Elf, Second}
 use Rattle.vm_host.specs.State.{HostState, then_more}
 use Rattle.elf_image.specs.Loaded.{Loaded}
-use Rattle.gadget_time.specs.Nop.{nop_sheet}
 use Rattle.elf_image.specs.Image.{HasImage}
+use Rattle.vm_trace.specs.File.{File}
+use Rattle.acceptance.specs.Spelled.{hints_before}
+use Rattle.vm_checker.specs.declared.Accepted.{Accepted as Acceptance}
 use Rattle.vm_checker.specs.declared.Verdict.{Verdict}
 use Rattle.vm_checker.specs.declared.Verdict.TheVariants as verdict
-use Rattle.vm_checker.specs.Verdicts.{acceptance_of, Judges, accepted, no_file, no_claim}
+use Rattle.vm_checker.specs.Exactly.{IsAcceptedFile}
+use Rattle.vm_checker.specs.Verdicts.{States, RunsOrCollides, JudgesFile, accepted, rejected}
 use Rattle.vm_tool.specs.declared.answer.Answer.{Answer}
 use Rattle.vm_tool.specs.declared.answer.Answer.TheVariants as answer
 use Rattle.vm_tool.specs.declared.answer.Halt.TheVariants.{Found}
 use Rattle.vm_tool.specs.declared.answer.Status.{Status}
 use Rattle.vm_tool.specs.declared.answer.Status.TheVariants as status
-use Rattle.vm_tool.specs.Answer.{status_of, text_of}
+use Rattle.vm_tool.specs.Answer.{line_of_accepted, status_of, text_of}
 use Rattle.vm_tool.specs.Command.{Command, Means, check}
 use Rattle.vm_tool.specs.Files.{OverElf, elf_refused, over_image}
 use Rattle.vm_tool.specs.CheckCommand.{answer_of_verdict, CheckAnswers}
-use Rattle.vm_tool.specs.Headline.{RunsAsSaid, AcceptedRuns}
+use Rattle.vm_tool.specs.Headline.{RunsAsSaid, Headline}
 use Rattle.vm_tool.specs.Outcome.{Answers, Outcome, answered, fault, memory}
-use Rattle.vm_tool.specs.Laws.{StatesRun, AcceptedIsARun}
+use Rattle.vm_tool.specs.Tables.{program_tables}
 use Rattle.vm_tool.proofs.Stages.{elf_not_done}
 use Rattle.vm_tool.proofs.Quiet.{told_is}
 use Rattle.vm_tool.proofs.LawLemmas.{meaning_is_one}
 
 -- an answer with status 0 is an accepted file
 record IsAccepted (elf tables : List ℕ) (found : Answer) : Type 0 where
-  code : ℕ
-  states : StatesRun elf tables code
-  is : found ≡ answer.Accepted (acceptance_of code)
+  loaded : Loaded
+  image : HasImage elf loaded
+  file : File
+  is : IsAcceptedFile (λ version. program_tables) loaded 1 tables file
+  stated : Acceptance
+  states : States program_tables loaded file stated
+  runs : RunsOrCollides program_tables loaded file stated.hints
+  found_is : found ≡ answer.Accepted stated
 
-no_refusal_done : (v : Verdict) (found : Answer) (rejected : Verdict) → v ≡ rejected → found ≡ answer_of_verdict v → status_of (answer_of_verdict rejected) ≡ status.Rejected → status_of found ≡ status.Done → ⊥
-no_refusal_done v found rejected same is other done = cc (sym other ∙ sym (ap (λ x. status_of (answer_of_verdict x)) same) ∙ sym (ap status_of is) ∙ done)
+not_both : status.Rejected ≡ status.Done → ⊥
+not_both e = cc
 
-module _ (elf tables : List ℕ) (found : Answer) (loaded : Loaded) (image : HasImage elf loaded) where
-  judged_done : (v : Verdict) → found ≡ answer_of_verdict v → Judges (nop_sheet 8) loaded tables v → status_of found ≡ status.Done → IsAccepted elf tables found
-  judged_done v is (accepted value file spelled accepts runs same) done = record {
-    code = value.exit_code;
-    states = record { loaded = loaded; image = image; value = value; file = file; spelled = spelled; accepts = accepts; stated = refl; ends = runs };
-    is = is ∙ ap answer_of_verdict same;
-  }
-  judged_done v is (no_file none same) done = absurd (no_refusal_done v found _ same is refl done)
-  judged_done v is (no_claim value file spelled wrong same) done = absurd (no_refusal_done v found _ same is refl done)
+judged_done : (elf tables : List ℕ) (found : Answer) (loaded : Loaded) → HasImage elf loaded → (v : Verdict) → found ≡ answer_of_verdict v → JudgesFile program_tables loaded tables v → status_of found ≡ status.Done → IsAccepted elf tables found
+judged_done elf tables found loaded image v is (accepted file here stated states runs none same) done =
+    record { loaded = loaded; image = image; file = file; is = here; stated = stated; states = states; runs = runs; found_is = is ∙ ap answer_of_verdict same }
+judged_done elf tables found loaded image v is (rejected why some same) done =
+    let other : status.Rejected ≡ status.Done = sym (ap status_of (is ∙ ap answer_of_verdict same)) ∙ done in
+    absurd (not_both other)
 
-check_done : (elf tables : List ℕ) (found : Answer) → OverElf elf (CheckAnswers tables) found → status_of found ≡ status.Done → IsAccepted elf tables found
+check_done : (elf tables : List ℕ) (found : Answer) → OverElf elf (CheckAnswers (Some tables)) found → status_of found ≡ status.Done → IsAccepted elf tables found
 check_done elf tables found (elf_refused why) done = absurd (elf_not_done elf found why done)
 check_done elf tables found (over_image loaded image c) done = judged_done elf tables found loaded image.image c.verdict c.is c.judges done
 
--- what status 0 says of the call, over inputs of these bytes
-abbrev Accepts : HostState → HostState → List ℕ → List ℕ → List ℕ → Type 0
-Accepts old new tables e h = (code : ℕ) × StatesRun e h code × (new.said ≡ then_more old.said (text_of (answer.Accepted (acceptance_of code))))
-    × (new.input Second ≡ record { is_open = true; rest = option_map (λ bytes. []) (old.content Second tables) })
+-- the line of what is stated
+line_is : (f : File) (a : Acceptance) (loaded : Loaded) (s : States program_tables loaded f a) → text_of (answer.Accepted a) ≡ line_of_accepted f.code (encode_lower f.public_bytes) (length f.segments) (length (hints_before s.events []))
+line_is f a loaded s =
+    ap (λ (code : ℕ). line_of_accepted code (encode_lower a.public) a.segments (length a.hints)) s.code
+    ∙ ap (λ (public : List ℕ). line_of_accepted f.code (encode_lower public) a.segments (length a.hints)) s.public
+    ∙ ap (λ (segments : ℕ). line_of_accepted f.code (encode_lower f.public_bytes) segments (length a.hints)) s.segments
+    ∙ ap (λ (hints : List ℕ). line_of_accepted f.code (encode_lower f.public_bytes) (length f.segments) (length hints)) s.hints
 
-accepted_by : (inputs : Slot → List ℕ) (old new : HostState) (elf tables : List ℕ) → Outcome inputs (Some (check elf tables)) old new status.Done → Accepts old new tables (inputs Elf) (inputs Second)
-accepted_by inputs old new elf tables (answered found says is text leaves) =
-    let found_is = check_done (inputs Elf) (inputs Second) found says (sym is) in (
-      found_is.code,
-      found_is.states,
-      text ∙ ap (λ (a : Answer). then_more old.said (text_of a)) found_is.is,
-      leaves.1 (acceptance_of found_is.code) (ap Found found_is.is),
-    )
-accepted_by inputs old new elf tables (fault is rose part leaves) = absurd (cc (is))
-accepted_by inputs old new elf tables (memory is part leaves) = absurd (cc (is))
+said_by : (elf elf_name tables tables_name : List ℕ) (inputs : Slot → List ℕ) (old new : HostState) → elf ≡ inputs Elf → old.content Second tables_name ≡ Some tables → Outcome inputs (Some (check elf_name tables_name)) old new status.Done → RunsAsSaid elf tables old new
+said_by elf elf_name tables tables_name inputs old new one two (answered found says is text leaves) =
+    let over = subst (λ (o : Option (List ℕ)). OverElf elf (CheckAnswers o) found) two (subst (λ (e : List ℕ). OverElf e (CheckAnswers (old.content Second tables_name)) found) (sym one) says) in
+    let a = check_done elf tables found over (sym is) in
+    record {
+      loaded = a.loaded;
+      image = a.image;
+      file = a.file;
+      spelled = a.is.text;
+      accepts = a.is.accepts;
+      hints = a.states.events;
+      spell = a.states.spell;
+      run = subst (λ (hints : List ℕ). RunsOrCollides program_tables a.loaded a.file hints) a.states.hints a.runs;
+      said = text ∙ ap (λ (x : Answer). then_more old.said (text_of x)) a.found_is ∙ ap (then_more old.said) (line_is a.file a.stated a.loaded a.states);
+      read = leaves.1 a.stated (ap Found a.found_is) ∙ ap (λ told. record { is_open = true; rest = option_map (λ bytes. []) told }) two;
+    }
+said_by elf elf_name tables tables_name inputs old new one two (fault is rose part leaves) = absurd (cc (is))
+said_by elf elf_name tables tables_name inputs old new one two (memory is part leaves) = absurd (cc (is))
 
--- the run that an accepted file states is the one that the line says
-runs_as_said : (old new : HostState) (tables e h : List ℕ) → Accepts old new tables e h → RunsAsSaid e old new
-runs_as_said old new tables e h a = record {
-  loaded = a.1.loaded;
-  image = a.1.image;
-  hints = [];
-  steps = _;
-  code = a.0;
-  public_bytes = replicate 64 0;
-  ends = a.1.ends;
-  segments = 1;
-  said = a.2;
+pub headline : (words : List (List ℕ)) (command : Option Command) (old new : HostState) (result : Status) → Means words command → Answers command old new result → Headline words old new result
+headline words command old new result means answers = record {
+  accepted = λ elf tables e t is done told_elf told_tables.
+      let same : command ≡ Some (check elf tables) = meaning_is_one words command (Some (check elf tables)) means (is, tt) in
+      let a : Answers (Some (check elf tables)) old new status.Done = subst (λ s. Answers (Some (check elf tables)) old new s) done (subst (λ c. Answers c old new result) same answers) in
+      said_by e elf t tables a.inputs old new (told_is (old.content Elf elf) e (a.inputs Elf) told_elf a.contents.0) told_tables a.outcome;
 }
-
-pub accepted_runs : (words : List (List ℕ)) (command : Option Command) (old new : HostState) (result : Status) → Means words command → Answers command old new result → AcceptedRuns words old new result
-accepted_runs words command old new result means answers elf tables e is done told =
-    let same : command ≡ Some (check elf tables) = meaning_is_one words command (Some (check elf tables)) means (is, tt) in
-    let a : Answers (Some (check elf tables)) old new status.Done = subst (λ s. Answers (Some (check elf tables)) old new s) done (subst (λ c. Answers c old new result) same answers) in
-    let elf_is : e ≡ a.inputs Elf = told_is (old.content Elf elf) e (a.inputs Elf) told a.contents.0 in
-    let accepts = accepted_by a.inputs old new elf tables a.outcome in
-    subst (λ x. RunsAsSaid x old new) (sym elf_is) (runs_as_said old new tables (a.inputs Elf) (a.inputs Second) accepts)
-
-pub accepted_is_a_run : AcceptedIsARun
-accepted_is_a_run old new elf tables e h a p q =
-    let one : e ≡ a.inputs Elf = told_is (old.content Elf elf) e (a.inputs Elf) p a.contents.0 in
-    let two : h ≡ a.inputs Second = told_is (old.content Second tables) h (a.inputs Second) q a.contents.1.0 in
-    let found = accepted_by a.inputs old new elf tables a.outcome in
-    let states : StatesRun e h found.0 = subst (λ x. StatesRun x h found.0) (sym one) (subst (λ y. StatesRun (a.inputs Elf) y found.0) (sym two) found.1) in
-    (found.0, states, found.2, found.3 ∙ ap (λ told. record { is_open = true; rest = option_map (λ bytes. []) told }) q)

@@ -11,29 +11,28 @@ use Rattle.vm_host.specs.Memory.{by_slot}
 use Rattle.vm_host.specs.State.{HostState, Input, after_these}
 use Rattle.vm_host.specs.ReadUpTo.{Took}
 use Rattle.vm_host.specs.Calls.{AtEnd, Rose}
-use Rattle.gadget_time.specs.Nop.{nop_sheet}
 use Rattle.elf_image.specs.Loaded.{Loaded}
 use Rattle.vm_checker.specs.declared.Accepted.{Accepted as Acceptance}
 use Rattle.vm_checker.specs.declared.Verdict.{Verdict}
 use Rattle.vm_checker.specs.declared.Verdict.TheVariants as verdict
-use Rattle.vm_checker.specs.declared.Reason.TheVariants as reason
-use Rattle.vm_checker.specs.Verdicts.{Checks, Judged}
+use Rattle.vm_checker.specs.Verdicts.{Checks, JudgesFile}
 use Rattle.vm_tool.specs.declared.answer.Answer.TheVariants.{Accepted}
 use Rattle.vm_tool.specs.declared.answer.Halt.{Halt}
 use Rattle.vm_tool.specs.declared.answer.Halt.TheVariants.{Found, Host}
 use Rattle.vm_tool.specs.Command.{check}
 use Rattle.vm_tool.specs.Files.{GivesImage, RefusesElf, IsContent, elf_refused, over_image}
 use Rattle.vm_tool.specs.CheckCommand.{answer_of_verdict}
+use Rattle.vm_tool.specs.Tables.{program_tables}
 use Rattle.vm_tool.specs.ReadFile.{Quiet, IsOpened, ReadWhole, HaltsAt}
 use Rattle.vm_tool.specs.Outcome.{Finds, ReadsAccepted}
 use Rattle.vm_tool.proofs.Files.{opened_then_took, rose_after}
-use Rattle.vm_tool.proofs.Quiet.{quiet_both, some_content, told_before, same_content}
+use Rattle.vm_tool.proofs.Quiet.{quiet_both, some_content, same_content}
 use Rattle.vm_tool.proofs.Stages.{ElfCommand, finds_second, fails_second}
 
 pub check_known : (elf tables : List ℕ) → ElfCommand (check elf tables) elf ((place.Second, tables) ∷ [])
 check_known elf tables = record {
   names = refl;
-  says = λ inputs found why. elf_refused why;
+  says = λ content inputs found why. elf_refused why;
   leaves = λ inputs s u halt not writes. (writes, λ accepted is. absurd (not accepted is));
   fill = λ content bytes told. let other = some_content (content Second tables) in (by_slot bytes other.0, (told, (other.1, tt)), refl);
 }
@@ -68,10 +67,10 @@ module _ (elf tables : List ℕ) (s t : HostState) (bytes : List ℕ) (loaded : 
         quiet_both s t w ((place.Elf, elf) ∷ []) ((place.Second, tables) ∷ []) a.quiet (opened_then_took Second tables taken t u w o took).quiet
 
     -- an accepted table file was read to its end
-    reads_accepted : (v : Verdict) (c : Checks (nop_sheet 8) loaded u w (Ok v)) → ReadsAccepted tables s w (Found (answer_of_verdict v))
+    reads_accepted : (v : Verdict) (c : Checks (JudgesFile program_tables loaded) u w (Ok v)) → ReadsAccepted tables s w (Found (answer_of_verdict v))
     reads_accepted v c accepted e =
         let is : v ≡ verdict.Accepted accepted = accepted_verdict v accepted e in
-        let end : AtEnd (w.input Second).rest = c.judged.end (λ rejected. cc (is, rejected)) in
+        let end : AtEnd (w.input Second).rest = c.end accepted (ap (λ (x : Verdict). Ok x) is) in
         let content : (u.input Second).rest ≡ s.content Second tables = ap (λ (i : Input). i.rest) o.input ∙ ap (λ told. told Second tables) (same_content s t ((place.Elf, elf) ∷ []) a.quiet) in
         let rest : (w.input Second).rest ≡ option_map (λ bytes. []) (s.content Second tables) =
         rest_at_end (s.content Second tables) (w.input Second).rest c.took.0 (sym content ∙ c.took.1.taken) end in
@@ -79,18 +78,18 @@ module _ (elf tables : List ℕ) (s t : HostState) (bytes : List ℕ) (loaded : 
         same_input (w.input Second) true (option_map (λ bytes. []) (s.content Second tables)) stands rest
 
     -- the verdict is found
-    pub check_found : (v : Verdict) → Checks (nop_sheet 8) loaded u w (Ok v) → Finds (Some (check elf tables)) s w (Found (answer_of_verdict v))
+    pub check_found : (v : Verdict) → Checks (JudgesFile program_tables loaded) u w (Ok v) → Finds (Some (check elf tables)) s w (Found (answer_of_verdict v))
     check_found v c =
         let quiet = read_both c.took.0 c.took.1 in
-        let P : Option (List ℕ) → Type 0 = λ told. IfSome told (λ rest. rest ≡ c.judged.bytes) in
-        let told : IsContent (t.content Second tables) c.judged.bytes = subst P (ap (λ (i : Input). i.rest) o.input) c.judged.told in
-        let told_first = told_before s t ((place.Elf, elf) ∷ []) Second tables c.judged.bytes a.quiet told in
-        finds_second (check elf tables) elf tables s w bytes c.judged.bytes loaded 1 (Found (answer_of_verdict v)) refl a.told told_first image
+        let other = some_content (s.content Second tables) in
+        let content : (u.input Second).rest ≡ s.content Second tables = ap (λ (i : Input). i.rest) o.input ∙ ap (λ told. told Second tables) (same_content s t ((place.Elf, elf) ∷ []) a.quiet) in
+        let judges : IfSome (s.content Second tables) (λ bytes. JudgesFile program_tables loaded bytes v) = subst (λ (told : Option (List ℕ)). IfSome told (λ bytes. JudgesFile program_tables loaded bytes v)) content c.judged in
+        finds_second (check elf tables) elf tables s w bytes other.0 loaded 1 (Found (answer_of_verdict v)) refl a.told other.1 image
         (λ writes. (writes, reads_accepted v c)) quiet
-        (over_image loaded image (record { verdict = v; judges = c.judged.judges; is = refl }), λ done. quiet.named)
+        (over_image loaded image (record { verdict = v; judges = judges; is = refl }), λ done. quiet.named)
 
     -- reading fails, or memory was refused
-    pub check_fails : (error : HostError) → Checks (nop_sheet 8) loaded u w (Err error) → Finds (Some (check elf tables)) s w (Host error)
+    pub check_fails : (error : HostError) → Checks (JudgesFile program_tables loaded) u w (Err error) → Finds (Some (check elf tables)) s w (Host error)
     check_fails error c =
         fails_second (check elf tables) elf tables s w bytes loaded 1 error (check_known elf tables) a.told image (read_both c.took.0 c.took.1)
         (λ failed. rose_after s.faults u.faults w.faults (omega (arith, a.quiet.later, o.quiet.later)) (c.fault (ap Err failed)))

@@ -21,7 +21,7 @@ use Rattle.vm_tool.specs.declared.answer.Answer.TheVariants as answer
 use Rattle.vm_tool.specs.declared.answer.Status.{Status}
 use Rattle.vm_tool.specs.declared.answer.Status.TheVariants as status
 use Rattle.vm_tool.specs.Answer.{status_of, text_of}
-use Rattle.vm_tool.specs.Command.{Command, run, transpile, check, words_of, IsInLimits}
+use Rattle.vm_tool.specs.Command.{Command, run, transpile, check, names_of, words_of, IsInLimits}
 use Rattle.vm_tool.specs.Files.{MAX_FILE, IsContent, AreContents, GivesImage, RefusesElf, too_long, refused, OverElf, elf_refused, over_image, RefusesHints}
 use Rattle.vm_tool.specs.RunCommand.{answer_of_end, RunAnswers, hints_refused, ended, RunEnds}
 use Rattle.vm_tool.specs.TranspileCommand.{Lists}
@@ -102,19 +102,23 @@ run_answers_are_one hints limit loaded a b (ended x) (hints_refused y) = absurd 
 run_answers_are_one hints limit loaded a b (ended x) (ended y) =
     x.is ∙ ap (answer_of_end limit) (run_end_is_one loaded hints limit x.end y.end x.ended y.ended) ∙ sym y.is
 
+one_by : (told : Option (List ℕ)) (tables : List ℕ) → told ≡ Some tables → (loaded : Loaded) (a b : Answer) → CheckAnswers told loaded a → CheckAnswers told loaded b → a ≡ b
+one_by told tables e loaded a b x y =
+    check_answers_are_one tables loaded a b (subst (λ (o : Option (List ℕ)). CheckAnswers o loaded a) e x) (subst (λ (o : Option (List ℕ)). CheckAnswers o loaded b) e y)
+
 pub answer_is_one : AnswerIsOne
-answer_is_one inputs None a b x y = x ∙ sym y
-answer_is_one inputs (Some (run elf hints steps)) a b x y =
+answer_is_one content inputs None a b told x y = x ∙ sym y
+answer_is_one content inputs (Some (run elf hints steps)) a b told x y =
     over_elf_is_one (inputs Elf) (RunAnswers (inputs Second) steps) (run_answers_are_one (inputs Second) steps) a b x y
-answer_is_one inputs (Some (transpile elf)) a b x y = over_elf_is_one (inputs Elf) Lists (λ loaded c d p q. p ∙ sym q) a b x y
-answer_is_one inputs (Some (check elf tables)) a b x y =
-    over_elf_is_one (inputs Elf) (CheckAnswers (inputs Second)) (check_answers_are_one (inputs Second)) a b x y
+answer_is_one content inputs (Some (transpile elf)) a b told x y = over_elf_is_one (inputs Elf) Lists (λ loaded c d p q. p ∙ sym q) a b x y
+answer_is_one content inputs (Some (check elf tables)) a b told x y =
+    over_elf_is_one (inputs Elf) (CheckAnswers (content Second tables)) (one_by (content Second tables) (inputs Second) told.1.0) a b x y
 
 -- ---- told files
 
 -- an answer over the bytes that are told
 says_told : (content : Slot → List ℕ → Option (List ℕ)) (command : Option Command) (inputs told : Slot → List ℕ) (found : Answer)
-    → AreContents content (all_names command) inputs → AreTold content (all_names command) told → Says inputs command found → Says told command found
+    → AreContents content (all_names command) inputs → AreTold content (all_names command) told → Says content inputs command found → Says content told command found
 says_told content None inputs told found c k says = says
 says_told content (Some (run elf hints steps)) inputs told found c k says =
     subst (λ h. OverElf (told Elf) (RunAnswers h steps) found) (sym (told_is (content Second hints) (told Second) (inputs Second) k.1.0 c.1.0))
@@ -122,12 +126,11 @@ says_told content (Some (run elf hints steps)) inputs told found c k says =
 says_told content (Some (transpile elf)) inputs told found c k says =
     subst (λ e. OverElf e Lists found) (sym (told_is (content Elf elf) (told Elf) (inputs Elf) k.0 c.0)) says
 says_told content (Some (check elf tables)) inputs told found c k says =
-    subst (λ h. OverElf (told Elf) (CheckAnswers h) found) (sym (told_is (content Second tables) (told Second) (inputs Second) k.1.0 c.1.0))
-    (subst (λ e. OverElf e (CheckAnswers (inputs Second)) found) (sym (told_is (content Elf elf) (told Elf) (inputs Elf) k.0 c.0)) says)
+    subst (λ e. OverElf e (CheckAnswers (content Second tables)) found) (sym (told_is (content Elf elf) (told Elf) (inputs Elf) k.0 c.0)) says
 
 -- a call without a fault says the one answer that its words can have
 answered_by : (inputs : Slot → List ℕ) (command : Option Command) (old new : HostState) (result : Status) (found : Answer) → Outcome inputs command old new result
-    → (Rose old.faults new.faults → ⊥) → ((other : Answer) → Says inputs command other → other ≡ found) → IsAnswered old new result found
+    → (Rose old.faults new.faults → ⊥) → ((other : Answer) → Says old.content inputs command other → other ≡ found) → IsAnswered old new result found
 answered_by inputs command old new result found (answered other says is text leaves) quiet one =
     let same = one other says in
     inr (is ∙ ap status_of same, text ∙ ap (λ x. then_more old.said (text_of x)) same)
@@ -137,22 +140,24 @@ answered_by inputs command old new result found (memory is part leaves) quiet on
 pub is_determined : Determined
 is_determined command old new result told found a contents quiet is =
     answered_by a.inputs command old new result found a.outcome quiet
-    (λ other says. answer_is_one told command other found (says_told old.content command a.inputs told other a.contents contents says) is)
+    (λ other says. answer_is_one old.content told command other found contents (says_told old.content command a.inputs told other a.contents contents says) is)
 
 -- an accepted claim is the one answer
-check_alone : (elf tables : List ℕ) (found other : Answer) (x : CheckSucceeds elf tables found) → OverElf elf (CheckAnswers tables) other → other ≡ found
+check_alone : (elf tables : List ℕ) (found other : Answer) (x : CheckSucceeds elf tables found) → OverElf elf (CheckAnswers (Some tables)) other → other ≡ found
 check_alone elf tables found other x (elf_refused why) = absurd (refused_alone elf other x.loaded why x.image)
 check_alone elf tables found other x (over_image loaded image says) =
     let same : loaded ≡ x.loaded = image_is_one elf loaded x.loaded image.image x.image.image in
-    accepted_says elf tables found other x (subst (λ l. CheckAnswers tables l other) same says)
+    accepted_says elf tables found other x (subst (λ l. CheckAnswers (Some tables) l other) same says)
 
 -- a command that succeeds says so, and nothing else
-success_alone : (inputs : Slot → List ℕ) (command : Command) (found other : Answer) → Succeeds inputs command found → Says inputs (Some command) other → other ≡ found
-success_alone inputs (run elf hints steps) found other x says =
-    answer_is_one inputs (Some (run elf hints steps)) other found says
+success_alone : (content : Slot → List ℕ → Option (List ℕ)) (inputs : Slot → List ℕ) (command : Command) (found other : Answer) → AreTold content (names_of command) inputs
+    → Succeeds inputs command found → Says content inputs (Some command) other → other ≡ found
+success_alone content inputs (run elf hints steps) found other told x says =
+    answer_is_one content inputs (Some (run elf hints steps)) other found told says
     (over_image x.loaded x.image (ended (record { short = x.short; end = Ended x.steps x.code x.public_bytes; ended = (x.within, x.ends); is = x.is })))
-success_alone inputs (transpile elf) found other x says = answer_is_one inputs (Some (transpile elf)) other found says (over_image x.loaded x.image x.lists)
-success_alone inputs (check elf tables) found other x says = check_alone (inputs Elf) (inputs Second) found other x says
+success_alone content inputs (transpile elf) found other told x says = answer_is_one content inputs (Some (transpile elf)) other found told says (over_image x.loaded x.image x.lists)
+success_alone content inputs (check elf tables) found other told x says =
+    check_alone (inputs Elf) (inputs Second) found other x (subst (λ (o : Option (List ℕ)). OverElf (inputs Elf) (CheckAnswers o) other) told.1.0 says)
 
 success_done : (inputs : Slot → List ℕ) (command : Command) (found : Answer) → Succeeds inputs command found → status_of found ≡ status.Done
 success_done inputs (run elf hints steps) found x = ap status_of x.is
@@ -163,18 +168,22 @@ pub is_complete : Complete
 is_complete command old new result told found a contents quiet x = (
   success_done told command found x,
   answered_by a.inputs (Some command) old new result found a.outcome quiet
-      (λ other says. success_alone told command found other x (says_told old.content (Some command) a.inputs told other a.contents contents says)),
+      (λ other says. success_alone old.content told command found other contents x (says_told old.content (Some command) a.inputs told other a.contents contents says)),
 )
 
 -- ---- refused files
 
--- a refused ELF file is answered, whatever the others are
-refusal_says : (inputs : Slot → List ℕ) (command : Option Command) (elf : List ℕ) (others : List (Place × List ℕ)) (refusal : Answer)
-    → all_names command ≡ (place.Elf, elf) ∷ others → RefusesElf (inputs Elf) refusal → Says inputs command refusal
-refusal_says inputs None elf others refusal names why = absurd (cc (names))
-refusal_says inputs (Some (run name hints steps)) elf others refusal names why = elf_refused why
-refusal_says inputs (Some (transpile name)) elf others refusal names why = elf_refused why
-refusal_says inputs (Some (check name tables)) elf others refusal names why = elf_refused why
+-- over a refused ELF file that is the one answer
+over_refused : (bytes : List ℕ) (Over : Loaded → Answer → Type 0) (found refusal : Answer) → RefusesElf bytes refusal → OverElf bytes Over found → found ≡ refusal
+over_refused bytes Over found refusal why (elf_refused other) = refusal_answer_is_one bytes found refusal other why
+over_refused bytes Over found refusal why (over_image loaded image x) = absurd (refused_alone bytes refusal loaded why image)
+
+refusal_alone : (content : Slot → List ℕ → Option (List ℕ)) (inputs : Slot → List ℕ) (command : Option Command) (elf : List ℕ) (others : List (Place × List ℕ)) (found refusal : Answer)
+    → all_names command ≡ (place.Elf, elf) ∷ others → RefusesElf (inputs Elf) refusal → Says content inputs command found → found ≡ refusal
+refusal_alone content inputs None elf others found refusal names why says = absurd (cc (names))
+refusal_alone content inputs (Some (run name hints steps)) elf others found refusal names why says = over_refused (inputs Elf) _ found refusal why says
+refusal_alone content inputs (Some (transpile name)) elf others found refusal names why says = over_refused (inputs Elf) _ found refusal why says
+refusal_alone content inputs (Some (check name tables)) elf others found refusal names why says = over_refused (inputs Elf) _ found refusal why says
 
 -- the ELF file is the one that is told
 elf_is : (content : Slot → List ℕ → Option (List ℕ)) (inputs : Slot → List ℕ) (names others : List (Place × List ℕ)) (elf bytes : List ℕ)
@@ -186,10 +195,9 @@ elf_is content inputs names others elf bytes contents is told =
 pub refused_elf_decides : RefusedElfDecides
 refused_elf_decides command old new result elf bytes others refusal a names told why =
     let same : bytes ≡ a.inputs Elf = elf_is old.content a.inputs (all_names command) others elf bytes a.contents names told in
-    let refused_here : RefusesElf (a.inputs Elf) refusal = subst (λ e. RefusesElf e refusal) same why in
-    let says = refusal_says a.inputs command elf others refusal names refused_here in (
+    let refused_here : RefusesElf (a.inputs Elf) refusal = subst (λ e. RefusesElf e refusal) same why in (
       alone refused_here (a.elf_first elf others names),
-      λ quiet. answered_by a.inputs command old new result refusal a.outcome quiet (λ other other_says. answer_is_one a.inputs command other refusal other_says says),
+      λ quiet. answered_by a.inputs command old new result refusal a.outcome quiet (λ other other_says. refusal_alone old.content a.inputs command elf others other refusal names refused_here other_says),
     )
   where
     alone : RefusesElf (a.inputs Elf) refusal → OpensElfAlone elf old new ⊎ ((loaded : Loaded) × GivesImage (a.inputs Elf) loaded) → OpensElfAlone elf old new

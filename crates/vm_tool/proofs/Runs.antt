@@ -24,7 +24,7 @@ use Rattle.vm_tool.proofs.Stages.{ElfCommand, finds_second, fails_second}
 pub run_known : (elf hints : List ℕ) (steps : ℕ) → ElfCommand (run elf hints steps) elf ((place.Second, hints) ∷ [])
 run_known elf hints steps = record {
   names = refl;
-  says = λ inputs found why. elf_refused why;
+  says = λ content inputs found why. elf_refused why;
   leaves = λ inputs s u halt not writes. writes;
   fill = λ content bytes told. let other = some_content (content Second hints) in (by_slot bytes other.0, (told, (other.1, tt)), refl);
 }

@@ -57,7 +57,7 @@ elf_first_said inputs command s t u found status p first elf others names = stil
     })
     still (inr image) = inr image
 
-said_part : (inputs : Slot → List ℕ) (command : Option Command) (s t u : HostState) (found : Answer) → Says inputs command found → t.said ≡ s.said → GrowsByPart t.said u.said (text_of found) → SaysPart inputs command s u
+said_part : (inputs : Slot → List ℕ) (command : Option Command) (s t u : HostState) (found : Answer) → Says s.content inputs command found → t.said ≡ s.said → GrowsByPart t.said u.said (text_of found) → SaysPart inputs command s u
 said_part inputs command s t u found says same part =
     inr (found, says, record { count = part.count; grown = part.grown ∙ ap (λ o. then_more o (take part.count (text_of found))) same })
 

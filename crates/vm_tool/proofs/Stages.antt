@@ -73,7 +73,7 @@ finds_no_command s = record {
 -- What is known of a command that reads an ELF file first.
 pub record ElfCommand (command : Command) (elf : List ℕ) (others : List (Place × List ℕ)) : Type 1 where
   pub names : names_of command ≡ (place.Elf, elf) ∷ others
-  pub says : (inputs : Slot → List ℕ) (found : Answer) → RefusesElf (inputs Elf) found → Says inputs (Some command) found
+  pub says : (content : Slot → List ℕ → Option (List ℕ)) (inputs : Slot → List ℕ) (found : Answer) → RefusesElf (inputs Elf) found → Says content inputs (Some command) found
   pub leaves : (inputs : Slot → List ℕ) (s u : HostState) (halt : Halt) → ((accepted : Acceptance) → halt ≡ Found (Accepted accepted) → ⊥)
       → WritesNothing s u → Leaves inputs (Some command) s u halt
   -- the ELF file's bytes, and those of the others as far as they are told
@@ -115,7 +115,7 @@ module _ (command : Command) (elf : List ℕ) (others : List (Place × List ℕ)
       finds_quietly command filled.0 [] others (place.Elf, elf) 1 s t (Found found) known.names filled.1
       (known.leaves filled.0 s t (Found found) (not_accepted h.0 found h.2))
       (alone filled.0 1 read.other read.quiet) read.quiet
-      (known.says filled.0 found why, λ done. absurd (elf_not_done h.0 found h.2 done))
+      (known.says s.content filled.0 found why, λ done. absurd (elf_not_done h.0 found h.2 done))
   elf_halts (Host error) h =
       let told = some_content (s.content Elf elf) in
       let filled = known.fill s.content told.0 told.1 in

@@ -19,7 +19,7 @@ use Rattle.vm_tool.proofs.Stages.{ElfCommand, finds_quietly}
 pub transpile_known : (elf : List ℕ) → ElfCommand (transpile elf) elf []
 transpile_known elf = record {
   names = refl;
-  says = λ inputs found why. elf_refused why;
+  says = λ content inputs found why. elf_refused why;
   leaves = λ inputs s u halt not writes. writes;
   fill = λ content bytes told. (by_slot bytes [], (told, tt), refl);
 }

@@ -9,8 +9,7 @@ use Rattle.rv_run.specs.declared.outcome.Cause.{Cause}
 use Rattle.rv_run.specs.declared.outcome.Cause.TheVariants as cause
 use Rattle.vm_host.specs.declared.HostError.{HostError}
 use Rattle.vm_host.specs.declared.HostError.TheVariants as host
-use Rattle.vm_checker.specs.declared.Reason.{Reason}
-use Rattle.vm_checker.specs.declared.Reason.TheVariants as reason
+use Rattle.table_format.specs.Reasons.{reason_text}
 use Rattle.vm_tool.specs.declared.answer.Answer.{Answer}
 use Rattle.vm_tool.specs.declared.answer.Answer.TheVariants as answer
 use Rattle.vm_tool.specs.declared.answer.Status.{Status}
@@ -66,10 +65,6 @@ status_of_error host.OutOfMemory = status.NoMemory
 abbrev pub line_of_exit : ℕ → List ℕ → ℕ → List ℕ
 line_of_exit code digits steps =
     codes "exit " ++ decimal code ++ codes " public " ++ digits ++ codes " steps " ++ decimal steps ++ codes "\n"
-
-abbrev pub reason_text : Reason → List ℕ
-reason_text reason.File = codes "file"
-reason_text reason.Claim = codes "claim"
 
 -- 64 public bytes as 128 digits, with the exit code, the segments and how many hint bytes the run takes
 abbrev pub line_of_accepted : ℕ → List ℕ → ℕ → ℕ → List ℕ

@@ -1,29 +1,41 @@
--- What status 0 of `check` says, in terms of the manual's machine alone.
-use Rattle.std.specs.Prelude.{◌≡◌, ℕ, List, [], ◌∷◌, length, codes, Some}
+-- What the program says of the runs of the manual's machine.
+use Rattle.std.specs.Prelude.{◌≡◌, ◌⊎◌, ℕ, List, [], ◌∷◌, length, codes, true, Some}
 use Rattle.hex.specs.Hex.{encode_lower}
-use Rattle.vm_host.specs.declared.Slot.TheVariants.{Elf}
+use Rattle.vm_host.specs.declared.Slot.TheVariants.{Elf, Second}
 use Rattle.vm_host.specs.State.{HostState, then_more}
 use Rattle.elf_image.specs.Loaded.{Loaded}
 use Rattle.elf_image.specs.Image.{HasImage}
 use Rattle.rv_run.specs.Run.{Ends}
+use Rattle.vm_trace.specs.File.{File}
+use Rattle.acceptance.specs.Accepts.{Accepts, Collides, steps_in}
+use Rattle.acceptance.specs.Spelled.{HintEvent, Spell, hints_before}
+use Rattle.table_format.specs.Texts.{file_text}
 use Rattle.vm_tool.specs.declared.answer.Status.{Status}
 use Rattle.vm_tool.specs.declared.answer.Status.TheVariants.{Done}
 use Rattle.vm_tool.specs.Answer.{line_of_accepted}
+use Rattle.vm_tool.specs.Tables.{program_tables}
 
--- The manual's machine, over the image of this ELF file and some hint bytes, ends with an exit code and public
--- bytes, and the line that was said states both, and how many hint bytes there are.
-pub record RunsAsSaid (elf : List ℕ) (old new : HostState) : Type 0 where
+-- The bytes of the table file spell a file that is accepted over the image of the ELF file. On the hints that its rows
+-- spell the manual's machine ends with the stated code and public bytes, after as many steps as it has valid rows; or
+-- two different nodes that image and file hold have one digest. The line says what is stated, and the table file was
+-- read to its end.
+pub record RunsAsSaid (elf tables : List ℕ) (old new : HostState) : Type 0 where
   pub loaded : Loaded
   pub image : HasImage elf loaded
-  pub hints : List ℕ
-  pub steps : ℕ
-  pub code : ℕ
-  pub public_bytes : List ℕ
-  pub ends : Ends loaded hints steps code public_bytes
-  pub segments : ℕ
-  pub said : new.said ≡ then_more old.said (line_of_accepted code (encode_lower public_bytes) segments (length hints))
+  pub file : File
+  pub spelled : tables ≡ file_text file
+  pub accepts : Accepts program_tables loaded file
+  pub hints : List HintEvent
+  pub spell : Spell program_tables file.segments hints
+  pub run : Ends loaded (hints_before hints []) (steps_in program_tables file.segments) file.code file.public_bytes ⊎ Collides loaded file
+  pub said : new.said ≡ then_more old.said (line_of_accepted file.code (encode_lower file.public_bytes) (length file.segments) (length (hints_before hints [])))
+  pub read : new.input Second ≡ record { is_open = true; rest = Some [] }
 
--- where the words `check ELF TABLES` end with status 0, over an ELF file that the host tells, the file runs as is said
+-- where the words `check ELF TABLES` end with status 0, over two files that the host tells
 abbrev pub AcceptedRuns : List (List ℕ) → HostState → HostState → Status → Type 0
-AcceptedRuns words old new status = (elf tables bytes : List ℕ) → words ≡ codes "check" ∷ elf ∷ tables ∷ []
-    → status ≡ Done → old.content Elf elf ≡ Some bytes → RunsAsSaid bytes old new
+AcceptedRuns words old new status = (elf tables elf_bytes table_bytes : List ℕ) → words ≡ codes "check" ∷ elf ∷ tables ∷ [] → status ≡ Done
+    → old.content Elf elf ≡ Some elf_bytes → old.content Second tables ≡ Some table_bytes → RunsAsSaid elf_bytes table_bytes old new
+
+-- what a call with these words did
+pub record Headline (words : List (List ℕ)) (old new : HostState) (status : Status) : Type 0 where
+  pub accepted : AcceptedRuns words old new status

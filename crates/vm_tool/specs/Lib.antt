@@ -12,3 +12,4 @@ pub mod Outcome
 pub mod ReadFile
 pub mod Laws
 pub mod Headline
+pub mod Tables

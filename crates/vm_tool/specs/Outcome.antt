@@ -58,11 +58,11 @@ ElfFirst inputs command old new = (elf : List ℕ) (others : List (Place × List
 -- nothing was said, or a first part of the line of an answer to the words
 abbrev pub SaysPart : (Slot → List ℕ) → Option Command → HostState → HostState → Type 0
 SaysPart inputs command old new = (new.said ≡ old.said)
-    ⊎ ((found : Answer) × Says inputs command found × GrowsByPart old.said new.said (text_of found))
+    ⊎ ((found : Answer) × Says old.content inputs command found × GrowsByPart old.said new.said (text_of found))
 
 -- The status and the line that is said are an answer to the words; or the host failed, or memory was refused.
 pub data Outcome (inputs : Slot → List ℕ) (command : Option Command) (old new : HostState) (status : Status) : Type 0 where
-  answered : (found : Answer) → Says inputs command found → status ≡ status_of found → new.said ≡ then_more old.said (text_of found)
+  answered : (found : Answer) → Says old.content inputs command found → status ≡ status_of found → new.said ≡ then_more old.said (text_of found)
       → Leaves inputs command old new (Found found) → Outcome inputs command old new status
   fault : status ≡ HostFault → Rose old.faults new.faults → SaysPart inputs command old new
       → Leaves inputs command old new (Host Failed) → Outcome inputs command old new status
@@ -87,7 +87,7 @@ halt_of (Ok found) = Found found
 halt_of (Err halt) = halt
 
 abbrev pub IsCauseOf : (Slot → List ℕ) → Option Command → HostState → HostState → Halt → Type 0
-IsCauseOf inputs command old new (Found found) = Says inputs command found × (status_of found ≡ Done → new.named ≡ then_more old.named (all_names command))
+IsCauseOf inputs command old new (Found found) = Says old.content inputs command found × (status_of found ≡ Done → new.named ≡ then_more old.named (all_names command))
 IsCauseOf inputs command old new (Host error) = error ≡ Failed → Rose old.faults new.faults
 
 pub record Finds (command : Option Command) (old new : HostState) (halt : Halt) : Type 0 where

@@ -11,12 +11,13 @@ use Rattle.vm_tool.specs.RunCommand.{RunAnswers, RunSucceeds}
 use Rattle.vm_tool.specs.TranspileCommand.{Lists, TranspileSucceeds}
 use Rattle.vm_tool.specs.CheckCommand.{CheckAnswers, CheckSucceeds}
 
--- what the words are answered with, where the inputs have these bytes; words of no command are said to be so
-abbrev pub Says : (Slot → List ℕ) → Option Command → Answer → Type 0
-Says inputs None found = found ≡ answer.Words
-Says inputs (Some (run elf hints steps)) found = OverElf (inputs Elf) (RunAnswers (inputs Second) steps) found
-Says inputs (Some (transpile elf)) found = OverElf (inputs Elf) Lists found
-Says inputs (Some (check elf tables)) found = OverElf (inputs Elf) (CheckAnswers (inputs Second)) found
+-- What the words are answered with, where the inputs have these bytes. Of a table file it is asked what the host tells.
+-- Words of no command are said to be so.
+abbrev pub Says : (Slot → List ℕ → Option (List ℕ)) → (Slot → List ℕ) → Option Command → Answer → Type 0
+Says content inputs None found = found ≡ answer.Words
+Says content inputs (Some (run elf hints steps)) found = OverElf (inputs Elf) (RunAnswers (inputs Second) steps) found
+Says content inputs (Some (transpile elf)) found = OverElf (inputs Elf) Lists found
+Says content inputs (Some (check elf tables)) found = OverElf (inputs Elf) (CheckAnswers (content Second tables)) found
 
 -- where a command can do what it is for, and what it then answers
 abbrev pub Succeeds : (Slot → List ℕ) → Command → Answer → Type 0

@@ -1,7 +1,7 @@
 // What the program answers: a status and a line.
 ghost use Rattle.std.specs.Prelude.{◌≡◌, IfOk, string_bytes};
 ghost use Rattle.vm_tool.specs.Listing.{line_of_row, listing_of};
-ghost use Rattle.vm_tool.specs.Answer.{status_of, status_of_error, text_of, refusal_text, cause_text, reason_text, line_of_exit, line_of_accepted, code_of};
+ghost use Rattle.vm_tool.specs.Answer.{status_of, status_of_error, text_of, refusal_text, cause_text, line_of_exit, line_of_accepted, code_of};
 
 use elf_image::ImageError;
 use rv_run::{Cause, Trap};
@@ -126,7 +126,7 @@ impl Answer {
                 accepted_line(alloc, accepted.code, &digits, accepted.segments, hints)
             }
             Answer::Rejected(reason) => {
-                let reason = reason_name(*reason);
+                let reason = reason.text(alloc)?;
                 format!(in alloc; "rejected {reason}\n")
             }
             Answer::Trapped(Trap { cause, pc }) => {
@@ -183,15 +183,6 @@ fn exit_line(alloc: Global, code: u8, digits: &str, steps: u64) -> Result<String
     let end = format!(in alloc; " steps {steps}\n")?;
     line.push_str(&end)?;
     Ok(line)
-}
-
-fn reason_name(reason: Reason) -> &'static str
-    ensures { result.now ≡ reason_text reason }
-{
-    match reason {
-        Reason::File => "file",
-        Reason::Claim => "claim",
-    }
 }
 
 fn accepted_line(

@@ -6,7 +6,7 @@ ghost use Rattle.vm_tool.specs.Outcome.{Finds, halt_of};
 
 use crate::answer::{Answer, Halt};
 use crate::inputs::{open, read_elf};
-use gadget_time::Nop;
+use crate::tables::program_tables;
 use std::alloc::Global;
 use vm_checker::{Verdict, check as check_tables};
 use vm_host::{Host, Slot};
@@ -22,7 +22,7 @@ pub fn find_check<H: Host>(
 {
     let image = read_elf(alloc, elf, host)?;
     open(Slot::Second, tables, host)?;
-    match check_tables(alloc, &Nop::new(), &image, host) {
+    match check_tables(alloc, &program_tables(), &image, host) {
         Ok(verdict) => Ok(answer_of(verdict)),
         Err(error) => Err(Halt::Host(error)),
     }

@@ -1,5 +1,5 @@
 // What follows from the contract of the top call.
-ghost use Rattle.vm_tool.specs.Laws.{AcceptedIsARun, AnswerIsOne, Complete, Determined, FaultHasCause, MeaningIsOne, RefusedElfDecides};
+ghost use Rattle.vm_tool.specs.Laws.{AnswerIsOne, Complete, Determined, FaultHasCause, MeaningIsOne, RefusedElfDecides};
 
 /// Words are one command, or none.
 pub fn meaning_is_one()
@@ -26,11 +26,6 @@ pub fn is_complete()
 /// words name.
 pub fn refused_elf_decides()
     ensures { RefusedElfDecides }
-{}
-
-/// Where `check` ends with status 0, the ELF file's program runs and ends as the table file states.
-pub fn accepted_is_a_run()
-    ensures { AcceptedIsARun }
 {}
 
 /// A host's fault is answered only where the host counted one.

@@ -8,6 +8,7 @@ mod inputs;
 mod laws;
 mod number;
 mod run_command;
+mod tables;
 #[cfg(test)]
 mod tests;
 mod tool;
@@ -15,8 +16,7 @@ mod transpile_command;
 
 pub use answer::{Answer, Status};
 pub use laws::{
-    accepted_is_a_run, answer_is_one, fault_has_cause, is_complete, is_determined, meaning_is_one,
-    refused_elf_decides,
+    answer_is_one, fault_has_cause, is_complete, is_determined, meaning_is_one, refused_elf_decides,
 };
 use std::alloc::AllocError;
 use std::process::ExitCode;

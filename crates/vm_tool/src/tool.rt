@@ -3,7 +3,7 @@ ghost use Rattle.std.specs.Prelude.{◌≡◌, map, string_bytes, Option};
 ghost use Rattle.std.specs.Option.{option_map};
 ghost use Rattle.vm_tool.specs.Command.{Command, Means};
 ghost use Rattle.vm_tool.specs.Form.{command_of};
-ghost use Rattle.vm_tool.specs.Headline.{AcceptedRuns};
+ghost use Rattle.vm_tool.specs.Headline.{Headline};
 ghost use Rattle.vm_tool.specs.Outcome.{Answers, Finds, Speaks, halt_of};
 
 use crate::answer::{Answer, Halt, Status};
@@ -16,9 +16,10 @@ use vm_host::Host;
 
 /// Does what the words say, and answers the status. The words are those after the program's name.
 ///
-/// Where `check` ends with status 0, the ELF file's program runs and ends as the line says.
+/// Where `check` ends with status 0, the ELF file's program runs on the hints that the table file spells and ends as the
+/// line says, or two different nodes of trees that these files hold have one digest.
 pub fn openvm<H: Host>(alloc: Global, words: &[String], host: &mut H) -> Status
-    ensures accepted { AcceptedRuns (map string_bytes words.now) (H.state host.old) (H.state host.new) result }
+    ensures headline { Headline (map string_bytes words.now) (H.state host.old) (H.state host.new) result }
     ensures answers { (command : Option Command) × Means (map string_bytes words.now) command × Answers command (H.state host.old) (H.state host.new) result }
 {
     perform(alloc, parse_words(words), host)

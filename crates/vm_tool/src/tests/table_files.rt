@@ -1,51 +1,111 @@
-// Table files that `check` accepts and rejects, and what a plain program says of them.
+// Table files that `check` accepts and rejects, each with the line that is said.
 use super::{elf_of, named, words_of};
 use crate::answer::Status;
 use crate::tool::openvm;
+use elf_image::read_image;
+use page_tree::{Digest, Tree};
 use std::alloc::{AllocError, Global};
 use std::process::Abort;
 use std::test::Fail;
-use table_format::{Connector, CountEntry, TableFile, spelling};
-use vm_field::Fe;
 use vm_host::MemoryHost;
+use vm_trace::REGISTER_LABEL;
 
-// terminate 7, which ends at once, and its file
+// terminate 7, which ends at once
 const EXIT_SEVEN: [u32; 1] = [0x0070_000B];
 
-const SHORT: [u8; 30] = *b"RVTABLES\0\0\0\0\0\x10\0\0\0\x10\0\0\x01\0\0\0\0\0\0\0\0\x07";
+// ADDI x5, x0, 7; terminate 0
+const SUM: [u32; 2] = [0x0070_0293, 0x0000_000B];
 
-// a no-operation and terminate 0, and its file
-const ONE_STEP: [u32; 2] = [0x0000_0013, 0x0000_000B];
+// the row of the sum: its pc, its time and its flag; its registers and its immediate's use; the immediate, the words that
+// are read and written, and the times of its accesses
+const SUM_ROW: [u32; 40] = [
+    4096, 1, 1, 0, 0, 0, 0, 5, 0, 0, 1, 7, 0, 0, 0, 0, 0, 0, 0, 7, 0, 0, 0, 0, 0, 0, 0, 7, 0, 0, 0,
+    0, 0, 0, 0, 0, 0, 0, 2, 0,
+];
 
-const LONG: [u8; 50] =
-    *b"RVTABLES\0\0\0\0\0\x10\0\0\x04\x10\0\0\x02\0\0\0\x01\0\x10\0\0\x01\0\0\0\x01\0\0\0\x01\0\0\0\0\0\0\0\x01\0\0\0\0";
+// its counts: of the program, of two xors, of three ranges, and none of SHA's constants
+const SUM_COUNTS: [u32; 16] = [1, 0, 1, 2, 0, 3, 1799, 1, 3, 255, 2, 65535, 1, 65537, 1, 0];
 
-// ADDI x0, x0, 5; LUI x0, 0x1F; FENCE; terminate 3
-const THREE_STEPS: [u32; 4] = [0x0050_0013, 0x0001_F037, 0x0FF0_000F, 0x0030_000B];
+// the final times of the blocks of registers
+const SUM_TIMES: [u32; 16] = [1, 0, 0, 0, 0, 3, 0, 0, 0, 0, 0, 0, 0, 0, 0, 0];
 
-// the ends, the rows and the entries of its file
-const ENDS: [u32; 3] = [4096, 4108, 4];
+fn push_numbers(bytes: &mut Vec<u8>, numbers: &[u32]) -> Result<(), AllocError> {
+    for number in numbers {
+        bytes.extend_from_slice(&number.to_le_bytes())?;
+    }
+    Ok(())
+}
 
-const ROWS: [[u16; 3]; 4] = [[4096, 1, 1], [4100, 2, 1], [4104, 3, 1], [0, 0, 0]];
+fn push_digests(bytes: &mut Vec<u8>, digests: &[Digest]) -> Result<(), AllocError> {
+    for digest in digests {
+        bytes.extend_from_slice(digest)?;
+    }
+    Ok(())
+}
 
-const ENTRIES: [(u32, u32); 3] = [(0, 1), (1, 1), (2, 1)];
+fn tree_of(alloc: Global, words: &[u32]) -> Result<Tree, Fail> {
+    let image = read_image(alloc, &elf_of(alloc, words)?)?;
+    Ok(Tree::of_image(alloc, &image)?)
+}
 
-const PRIME: u64 = 2_013_265_921;
+// The head, and what stands first in a segment that ends.
+fn push_front(
+    bytes: &mut Vec<u8>,
+    connector: [u32; 3],
+    roots: [Digest; 2],
+) -> Result<(), AllocError> {
+    bytes.extend_from_slice(b"RVTABLES")?;
+    push_numbers(bytes, &[1])?;
+    bytes.push(1)?;
+    push_numbers(bytes, &connector)?;
+    bytes.push(1)?;
+    push_digests(bytes, &roots)
+}
 
-/// A status and the line that is said with it.
-type Answer<'a> = (Status, &'a str);
+// The mark that no segment follows, and the claim.
+fn push_end(bytes: &mut Vec<u8>, code: u8, tree: &Tree) -> Result<(), AllocError> {
+    bytes.extend_from_slice(&[0, code])?;
+    bytes.extend_from_slice(&[0; 64])?;
+    push_digests(bytes, &tree.public_path())
+}
 
-const ACCEPTED_0: Answer<'static> = (
-    Status::Done,
-    "accepted exit 0 public \
-     0000000000000000000000000000000000000000000000000000000000000000\
-     0000000000000000000000000000000000000000000000000000000000000000 \
-     segments 1 hint-bytes 0\n",
-);
+// The file of no steps, which ends at the program's first word with a code.
+fn resting_file(alloc: Global, words: &[u32], code: u8) -> Result<Vec<u8>, Fail> {
+    let tree = tree_of(alloc, words)?;
+    let root = tree.root();
+    let mut bytes = Vec::new(alloc);
+    push_front(&mut bytes, [4096, 4096, 1], [root, root])?;
+    bytes.extend_from_slice(&[0; 17])?;
+    // four lists of no entries, no page, and one sibling
+    push_numbers(&mut bytes, &[0, 0, 0, 0, 0, 1])?;
+    push_digests(&mut bytes, &[root])?;
+    push_end(&mut bytes, code, &tree)?;
+    Ok(bytes)
+}
 
-const NO_FILE: Answer<'static> = (Status::Rejected, "rejected file\n");
-
-const NO_CLAIM: Answer<'static> = (Status::Rejected, "rejected claim\n");
+// The file of the sum: one row of the ALU over the page of registers, with these final times and this row.
+fn sum_file(alloc: Global, row: &[u32; 40], times: &[u32; 16]) -> Result<Vec<u8>, Fail> {
+    let mut tree = tree_of(alloc, &SUM)?;
+    let start = tree.root();
+    let siblings = tree.make_opening(alloc, &[REGISTER_LABEL])?;
+    let mut page = [0; 64];
+    page[20] = 7;
+    tree.put(REGISTER_LABEL, page)?;
+    let mut bytes = Vec::new(alloc);
+    push_front(&mut bytes, [4096, 4100, 4], [start, tree.root()])?;
+    bytes.push(1)?;
+    bytes.extend_from_slice(&[0; 16])?;
+    push_numbers(&mut bytes, row)?;
+    push_numbers(&mut bytes, &SUM_COUNTS)?;
+    push_numbers(&mut bytes, &[1, REGISTER_LABEL])?;
+    bytes.extend_from_slice(&[0; 64])?;
+    bytes.extend_from_slice(&page)?;
+    push_numbers(&mut bytes, times)?;
+    push_numbers(&mut bytes, &[25])?;
+    push_digests(&mut bytes, &siblings)?;
+    push_end(&mut bytes, 0, &tree)?;
+    Ok(bytes)
+}
 
 fn checked<R: Abort + AllocGlobal>(
     rt: &R,
@@ -62,20 +122,7 @@ fn checked<R: Abort + AllocGlobal>(
     Ok((status, host))
 }
 
-fn says<R: Abort + AllocGlobal>(
-    rt: &R,
-    words: &[u32],
-    tables: &[u8],
-    answer: Answer,
-) -> Result<(), Fail> {
-    let (wanted, text) = answer;
-    let (status, host) = checked(rt, words, tables, &[])?;
-    assert_eq!(rt; status, wanted, "{text}");
-    assert_eq!(rt; host.said(), text.as_bytes(), "{text}");
-    Ok(())
-}
-
-// The file is accepted, with this exit code.
+// The file is accepted, with this exit code and this number of segments.
 fn accepts<R: Abort + AllocGlobal>(
     rt: &R,
     words: &[u32],
@@ -86,184 +133,156 @@ fn accepts<R: Abort + AllocGlobal>(
     let line = format!(in rt.alloc();
         "accepted exit {code} public {none:0<128} segments 1 hint-bytes 0\n"
     )?;
-    says(rt, words, tables, (Status::Done, &line))
+    let (status, host) = checked(rt, words, tables, &[])?;
+    assert_eq!(rt; status, Status::Done, "{line}");
+    assert_eq!(rt; host.said(), line.as_bytes(), "{line}");
+    Ok(())
 }
 
-// The file of these rows, each a pc, a time and a flag, and these entries.
-fn file_of(
+// The file is rejected for this reason.
+fn rejects<R: Abort + AllocGlobal>(
+    rt: &R,
+    words: &[u32],
+    tables: &[u8],
+    reason: &str,
+) -> Result<(), Fail> {
+    let line = format!(in rt.alloc(); "rejected {reason}\n")?;
+    let (status, host) = checked(rt, words, tables, &[])?;
+    assert_eq!(rt; status, Status::Rejected, "{reason}");
+    assert_eq!(rt; host.said(), line.as_bytes(), "{reason}");
+    Ok(())
+}
+
+// The bytes with others put at a place, where some stood before.
+fn changed(
     alloc: Global,
-    connector: [u32; 3],
-    height_code: u8,
-    rows: &[[u16; 3]],
-    entries: &[(u32, u32)],
-    exit_code: u8,
+    bytes: &[u8],
+    at: usize,
+    old: usize,
+    new: &[u8],
 ) -> Result<Vec<u8>, AllocError> {
-    let [pc_start, pc_end, end_time] = connector;
-    let mut file = TableFile {
-        connector: Connector {
-            pc_start,
-            pc_end,
-            end_time,
-        },
-        height_code,
-        rows: Vec::new(alloc),
-        entries: Vec::new(alloc),
-        exit_code,
-    };
-    for [pc, time, flag] in rows {
-        file.rows
-            .push([Fe::of_u16(*pc), Fe::of_u16(*time), Fe::of_u16(*flag)])?;
+    let front = bytes.iter().take(at);
+    let behind = bytes.iter().skip(at).skip(old);
+    front.chain(new).chain(behind).copied().collect(alloc)
+}
+
+// a place, how many bytes are taken out there, those that are put there, and the reason
+const FORGED: [(usize, usize, &[u8], &str); 19] = [
+    (1028, 1, &[], "cut 1028"),
+    (1029, 0, &[0], "trailing 1029"),
+    (0, 1029, &[], "cut 0"),
+    (0, 1, b"r", "magic"),
+    (8, 1, &[9], "version 9"),
+    // files of the first form
+    (8, 1, &[0], "version 0"),
+    (12, 1, &[2], "marker 12"),
+    // the prime
+    (13, 4, &[1, 0, 0, 0x78], "not-canonical 13"),
+    // both pcs behind the entry
+    (13, 8, &[4, 16, 0, 0, 4, 16, 0, 0], "pc-chain 0"),
+    (21, 1, &[2], "unbalanced 0 0 (4096,1) 1 0"),
+    (25, 1, &[0], "no-end"),
+    (25, 1, &[2], "marker 25"),
+    (26, 1, &[0], "root-start 0"),
+    (58, 1, &[0], "root-end 0"),
+    (90, 1, &[22], "height 0 0"),
+    (90, 17, &[21; 17], "slot-sum 0"),
+    // an entry of place 0 and count 0
+    (
+        107,
+        4,
+        &[1, 0, 0, 0, 0, 0, 0, 0, 0, 0, 0, 0],
+        "count-entry 111",
+    ),
+    (127, 1, &[2], "siblings 0 1 2"),
+    (164, 2, &[8, 1], "exit-code 8 7"),
+];
+
+#[test]
+fn a_file_of_no_steps(rt: HostRuntime) -> Result<(), Fail> {
+    let alloc = rt.alloc();
+    let file = resting_file(alloc, &EXIT_SEVEN, 7)?;
+    assert_eq!(rt; file.len(), 1029);
+    accepts(&rt, &EXIT_SEVEN, &file, 7)?;
+    for (at, old, new, reason) in FORGED {
+        let forged = changed(alloc, &file, at, old, new)?;
+        rejects(&rt, &EXIT_SEVEN, &forged, reason)?;
     }
-    for (place, count) in entries {
-        file.entries.push(CountEntry {
-            place: *place,
-            count: *count,
-        })?;
-    }
-    if file.entries.len() >= 1 << 32 {
-        return Ok(Vec::new(alloc));
-    }
-    spelling(alloc, &file)
+    let public = changed(alloc, &file, 165, 1, &[1])?;
+    rejects(&rt, &EXIT_SEVEN, &public, "public")?;
+    // a word that is no terminate at the end
+    let early = resting_file(alloc, &SUM, 0)?;
+    rejects(&rt, &SUM, &early, "not-terminate 0")
+}
+
+// One page of zeros with this label.
+fn push_page(bytes: &mut Vec<u8>, label: u32) -> Result<(), AllocError> {
+    push_numbers(bytes, &[label])?;
+    bytes.extend_from_slice(&[0; 192])
 }
 
 #[test]
-fn stored_runs(rt: HostRuntime) -> Result<(), Fail> {
+fn pages_and_segments(rt: HostRuntime) -> Result<(), Fail> {
     let alloc = rt.alloc();
-    accepts(&rt, &EXIT_SEVEN, &SHORT, 7)?;
-    says(&rt, &ONE_STEP, &LONG, ACCEPTED_0)?;
-    // another end's time
-    let mut late = LONG;
-    late[20] = 3;
-    says(&rt, &ONE_STEP, &late, NO_CLAIM)?;
-    says(&rt, &ONE_STEP, &LONG[..49], NO_FILE)?;
-    let mut more = LONG.as_slice().to_vec(alloc)?;
-    more.push(0)?;
-    says(&rt, &ONE_STEP, &more, NO_FILE)?;
-    // a pc at which no row of the program stands
-    says(&rt, &[0xFFFF_FFFF, 0x0000_000B], &LONG, NO_CLAIM)?;
-
-    let exchanged = [ROWS[2], ROWS[3], ROWS[0], ROWS[1]];
-    let good = file_of(alloc, ENDS, 3, &ROWS, &ENTRIES, 3)?;
-    accepts(&rt, &THREE_STEPS, &good, 3)?;
-    let other_order = file_of(alloc, ENDS, 3, &exchanged, &ENTRIES, 3)?;
-    accepts(&rt, &THREE_STEPS, &other_order, 3)
+    let file = resting_file(alloc, &EXIT_SEVEN, 7)?;
+    // a label behind the last, and one twice
+    let mut pages = Vec::new(alloc);
+    push_numbers(&mut pages, &[1])?;
+    push_page(&mut pages, 25_165_825)?;
+    let no_space = changed(alloc, &file, 123, 4, &pages)?;
+    rejects(&rt, &EXIT_SEVEN, &no_space, "page-space 0 0")?;
+    let mut pages = Vec::new(alloc);
+    push_numbers(&mut pages, &[2])?;
+    push_page(&mut pages, 16_777_216)?;
+    push_page(&mut pages, 16_777_216)?;
+    let twice = changed(alloc, &file, 123, 4, &pages)?;
+    rejects(&rt, &EXIT_SEVEN, &twice, "page-order 0 1")?;
+    // a segment behind the last, and too many
+    let segment: Vec<u8> = file.iter().skip(12).take(151).copied().collect(alloc)?;
+    let behind = changed(alloc, &file, 12, 0, &segment)?;
+    rejects(&rt, &EXIT_SEVEN, &behind, "early-end 0")?;
+    let open = changed(alloc, &segment, 13, 1, &[0])?;
+    let mut many: Vec<u8> = file.iter().take(12).copied().collect(alloc)?;
+    for _ in 0..4097 {
+        many.extend_from_slice(&open)?;
+    }
+    rejects(&rt, &EXIT_SEVEN, &many, "too-many-segments")
 }
 
 #[test]
-fn untrue_claims(rt: HostRuntime) -> Result<(), Fail> {
+fn a_file_of_one_step(rt: HostRuntime) -> Result<(), Fail> {
     let alloc = rt.alloc();
-    let broken = [ROWS[0], ROWS[1], ROWS[2], [0, 0, 2]];
-    let circle = [ROWS[0], ROWS[1], ROWS[2], ROWS[2]];
-    let early = [[4100, 1, 1], [4104, 2, 1]];
-    let files = [
-        // another end's time, another code, an end that is no terminate, a start that is not the entry
-        file_of(alloc, [4096, 4108, 5], 3, &ROWS, &ENTRIES, 3)?,
-        file_of(alloc, ENDS, 3, &ROWS, &ENTRIES, 4)?,
-        file_of(alloc, [4096, 4104, 3], 2, &ROWS[..2], &ENTRIES[..2], 3)?,
-        file_of(alloc, [4100, 4108, 3], 2, &early, &ENTRIES[1..], 3)?,
-        // no rows
-        file_of(alloc, [4096, 4108, 1], 0, &[], &[], 3)?,
-        // a row that doesn't hold and says nothing, and one that isn't counted
-        file_of(alloc, ENDS, 3, &broken, &ENTRIES, 3)?,
-        file_of(alloc, ENDS, 3, &ROWS, &ENTRIES[..2], 3)?,
-        // a circle of rows beside the path
-        file_of(alloc, ENDS, 3, &circle, &[(0, 1), (1, 1), (2, 2)], 3)?,
-    ];
-    for file in &files {
-        says(&rt, &THREE_STEPS, file, NO_CLAIM)?;
-    }
-    Ok(())
+    let file = sum_file(alloc, &SUM_ROW, &SUM_TIMES)?;
+    assert_eq!(rt; file.len(), 2201);
+    accepts(&rt, &SUM, &file, 0)?;
+    // the word is written at time 3 and not at 2
+    let mut times = SUM_TIMES;
+    times[5] = 2;
+    let early = sum_file(alloc, &SUM_ROW, &times)?;
+    let reason = "unbalanced 0 2 (1,20,7,0,0,0,2) 0 1";
+    rejects(&rt, &SUM, &early, reason)?;
+    // a sum that is none
+    let mut row = SUM_ROW;
+    row[27] = 8;
+    let wrong = sum_file(alloc, &row, &SUM_TIMES)?;
+    rejects(&rt, &SUM, &wrong, "row 0 0 0 10")?;
+    // of another program
+    rejects(
+        &rt,
+        &EXIT_SEVEN,
+        &file,
+        "unbalanced 0 1 (4096,1,5,0,0,1,1,7,0,0,0,0) 1 0",
+    )
 }
 
-// ---- the plain program, of the program of one step
-
-fn number(bytes: &[u8], at: usize) -> u64 {
-    match bytes.get(at..) {
-        Some([a, b, c, d, ..]) => {
-            *a as u64 + 256 * *b as u64 + 65_536 * *c as u64 + 16_777_216 * *d as u64
-        }
-        _ => PRIME,
-    }
-}
-
-fn are_elements(bytes: &[u8]) -> bool {
-    bytes.chunks(4).all(|text| number(text, 0) < PRIME)
-}
-
-// The rows, and what follows them, where the bytes are those of a file.
-fn parts(bytes: &[u8]) -> Option<(&[u8], &[u8])> {
-    let code = *bytes.get(24)?;
-    if !bytes.starts_with(b"RVTABLES\0\0\0\0") || code > 21 {
-        return None;
-    }
-    // no file here is as long as a hundred rows
-    let height = ((1usize << code) / 2).min(100);
-    let rows = bytes.get(25..25 + 12 * height)?;
-    let behind = bytes.get(25 + 12 * height..)?;
-    let places = [number(behind, 4), number(behind, 12)];
-    let counts = [number(behind, 8), number(behind, 16)];
-    let good = match number(behind, 0) {
-        0 => behind.len() == 5,
-        1 => behind.len() == 13 && places[0] < 2 && counts[0] > 0,
-        2 => behind.len() == 21 && places == [0, 1] && counts[0] > 0 && counts[1] > 0,
-        _ => false,
-    };
-    (good && are_elements(&bytes[12..24]) && are_elements(rows)).then_some((rows, behind))
-}
-
-// A row that says nothing, or the one step.
-fn is_right(row: &[u8]) -> bool {
-    let one_step = [number(row, 0), number(row, 4)] == [4096, 1];
-    number(row, 8) == 0 || (number(row, 8) == 1 && one_step)
-}
-
-// The answer to the bytes: they are a true claim, one that isn't, or no file.
-fn plain_answer(bytes: &[u8]) -> Answer<'static> {
-    let Some((rows, behind)) = parts(bytes) else {
-        return NO_FILE;
-    };
-    let right = rows.chunks(12).all(is_right);
-    let valid = rows.chunks(12).filter(|row| number(row, 8) == 1).count();
-    // from the entry at time 1 to the end, by a row that is used once
-    let path = [number(bytes, 12), number(bytes, 16), number(bytes, 20)] == [4096, 4100, 2];
-    let used = [number(behind, 0), number(behind, 4), number(behind, 8)] == [1, 0, 1];
-    if right && valid == 1 && path && used && bytes.last() == Some(&0) {
-        ACCEPTED_0
-    } else {
-        NO_CLAIM
-    }
-}
-
-// Whether `check` answers as the plain program does.
-fn agrees<R: Abort + AllocGlobal>(rt: &R, bytes: &[u8]) -> Result<bool, Fail> {
-    let (status, host) = checked(rt, &ONE_STEP, bytes, &[])?;
-    let (wanted, text) = plain_answer(bytes);
-    Ok(status == wanted && host.said() == text.as_bytes())
-}
-
-#[test]
-fn every_cut_and_every_byte(rt: HostRuntime) -> Result<(), Fail> {
-    let alloc = rt.alloc();
-    for length in 0..=LONG.len() {
-        assert!(rt; agrees(&rt, &LONG[..length])?, "{length}");
-    }
-    let mut bytes = LONG.as_slice().to_vec(alloc)?;
-    for at in 0..LONG.len() {
-        for value in 0..=255 {
-            bytes[at] = value;
-            assert!(rt; agrees(&rt, &bytes)?, "{at} {value}");
-        }
-        bytes[at] = LONG[at];
-    }
-    Ok(())
-}
-
-// Each call of the host fails in turn. There are twelve before the line is said.
+// Each call of the host fails in turn. There are nine: each file is opened, the ELF file is read and its end found, the
+// head is read in two parts, the rest and its end are read, and the line is said.
 #[test]
 fn each_call_of_a_check_fails(rt: HostRuntime) -> Result<(), Fail> {
-    for number in 0..14 {
-        let (status, host) = checked(&rt, &EXIT_SEVEN, &SHORT, &[number])?;
-        let last = number > 12;
+    let file = resting_file(rt.alloc(), &EXIT_SEVEN, 7)?;
+    for number in 0..10 {
+        let (status, host) = checked(&rt, &EXIT_SEVEN, &file, &[number])?;
+        let last = number > 8;
         assert_eq!(rt; status == Status::Done, last, "{number}");
         assert_eq!(rt; status == Status::HostFault, !last, "{number}");
         assert_eq!(rt; host.said().is_empty(), !last, "{number}");

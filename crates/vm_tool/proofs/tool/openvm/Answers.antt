@@ -1,6 +1,5 @@
-use Rattle.vm_tool.proofs.CheckLaws.{accepted_runs}
+use Rattle.vm_tool.proofs.CheckLaws.{headline}
 use Rattle.vm_tool.proofs.tool.openvm.Goals as goal
 
-pub returns-clause-accepted : goal.returns-clause-accepted
-returns-clause-accepted g c =
-    accepted_runs _ _ _ _ _ c.parse_words.ensures c.perform.ensures
+pub returns-clause-headline : goal.returns-clause-headline
+returns-clause-headline g c = headline _ _ _ _ _ c.parse_words.ensures c.perform.ensures
