@@ -1,0 +1,11 @@
+mod Exchange
+mod Lawful
+mod Owners
+mod FixedRows
+mod Entries
+mod RecordSums
+mod SevenLists
+mod Sent
+mod Balance
+mod Limits
+mod SegmentHolds
