@@ -9,3 +9,6 @@ mod Sent
 mod Balance
 mod Limits
 mod SegmentHolds
+mod RecordHints
+mod Counting
+mod Spells
