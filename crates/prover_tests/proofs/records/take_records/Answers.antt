@@ -1,4 +1,4 @@
-use Rattle.std.proofs.Common.{◌≡◌, List, [], ◌∷◌, ◌++◌, ◌+◌, sym, ap, ◌∙◌, subst, arith}
+use Rattle.std.proofs.Common.{List, ◌+◌, sym, ap, ◌∙◌, subst, arith}
 use Rattle.vm_isa.specs.declared.instr.VmInstr.{VmInstr}
 use Rattle.vm_isa.specs.declared.record.StepRecord.{StepRecord}
 use Rattle.vm_executor.specs.Machine.{Machine, begun, Goes}
@@ -31,12 +31,12 @@ loop-step-preserved c =
     record {
       taken = elim c.match-branch-2.branch [
         | in-Went+in_ok-push w ↦
-        let goes : Goes program old new w.in-Went.record = subst (IsStep program old new) w.in-Went.is step in
-        subst (λ (done : List StepRecord). AreTaken program pc (number + 1) done new) (sym (ap (λ v. v.items) w.records-is ∙ w.in_ok-push.ensures.items))
-        (taken_more program pc number c.loop-step.records.items old new w.in-Went.record c.requires.range (omega (arith, c.loop-step-test.true, c.requires.few)) c.loop-step.invariant.taken goes)
+            let goes : Goes program old new w.in-Went.record = subst (IsStep program old new) w.in-Went.is step in
+            subst (λ (done : List StepRecord). AreTaken program pc (number + 1) done new) (sym (ap (λ v. v.items) w.records-is ∙ w.in_ok-push.ensures.items))
+            (taken_more program pc number c.loop-step.records.items old new w.in-Went.record c.requires.range (omega (arith, c.loop-step-test.true, c.requires.few)) c.loop-step.invariant.taken goes)
         | in_default w ↦
-        subst (λ (done : List StepRecord). AreTaken program pc (number + 1) done new) (sym (ap (λ v. v.items) w.records-is))
-        (taken_same program pc number c.loop-step.records.items old new (stays program old new c.in_ok-record.field-0 step w.in_default.not-Went) c.loop-step.invariant.taken)
+            subst (λ (done : List StepRecord). AreTaken program pc (number + 1) done new) (sym (ap (λ v. v.items) w.records-is))
+            (taken_same program pc number c.loop-step.records.items old new (stays program old new c.in_ok-record.field-0 step w.in_default.not-Went) c.loop-step.invariant.taken)
       ];
       same = c.step.ensures.program ∙ c.loop-step.invariant.same;
     }
