@@ -1,0 +1,46 @@
+-- How a run ends, as far as a file can tell it: one has at most 4,096 segments.
+use Rattle.std.specs.Prelude.{◌≡◌, ℕ, ◌<◌, ◌≤◌, List, length}
+use Rattle.elf_image.specs.Loaded.{Loaded}
+use Rattle.rv_run.specs.declared.outcome.Trap.{Trap as Cause}
+use Rattle.rv_run.specs.Run.{Ends, Traps}
+use Rattle.vm_prover.specs.Cut.{CutsTo}
+use Rattle.vm_prover.specs.declared.plain_run.Surveyed.{Surveyed}
+use Rattle.vm_prover.specs.declared.plain_run.Surveyed.TheVariants.{Ended, Trapped, TooManySegments}
+
+-- it ends, and these are the lengths of its segments
+pub record EndsCut (loaded : Loaded) (hints : List ℕ) (per_segment steps : ℕ) (lengths : List ℕ) (code : ℕ) (public_bytes : List ℕ) : Type 0 where
+  pub ends : Ends loaded hints steps code public_bytes
+  pub cuts : CutsTo loaded hints per_segment steps lengths
+  pub few : length lengths ≤ 4096
+
+-- it traps
+pub record TrapsCut (loaded : Loaded) (hints : List ℕ) (per_segment : ℕ) (trap : Cause) : Type 0 where
+  pub steps : ℕ
+  pub lengths : List ℕ
+  pub traps : Traps loaded hints steps trap
+  pub cuts : CutsTo loaded hints per_segment steps lengths
+  pub few : length lengths ≤ 4096
+
+-- some of its steps have more segments
+pub record GoesPast (loaded : Loaded) (hints : List ℕ) (per_segment : ℕ) : Type 0 where
+  pub steps : ℕ
+  pub lengths : List ℕ
+  pub cuts : CutsTo loaded hints per_segment steps lengths
+  pub many : 4096 < length lengths
+
+abbrev pub IsSurvey : Loaded → List ℕ → ℕ → Surveyed → Type 0
+IsSurvey loaded hints per_segment (Ended code public steps lengths) = EndsCut loaded hints per_segment steps lengths.items code public
+IsSurvey loaded hints per_segment (Trapped trap) = TrapsCut loaded hints per_segment trap
+IsSurvey loaded hints per_segment TooManySegments = GoesPast loaded hints per_segment
+
+-- A run ends in one way: of ending, trapping and having more segments no two hold of it, nor any of them twice.
+pub record IsOneWay (loaded : Loaded) (hints : List ℕ) (per_segment : ℕ) : Type 0 where
+  pub ends : (n k : ℕ) (lengths others : List ℕ) (code other : ℕ) (shown too : List ℕ) → EndsCut loaded hints per_segment n lengths code shown → EndsCut loaded hints per_segment k others other too
+      → (n ≡ k) × (lengths ≡ others) × (code ≡ other) × (shown ≡ too)
+  pub traps : (trap other : Cause) → TrapsCut loaded hints per_segment trap → TrapsCut loaded hints per_segment other → trap ≡ other
+  pub ends_or_traps : (n : ℕ) (lengths : List ℕ) (code : ℕ) (shown : List ℕ) (trap : Cause) → EndsCut loaded hints per_segment n lengths code shown → TrapsCut loaded hints per_segment trap → ⊥
+  pub ends_or_goes_past : (n : ℕ) (lengths : List ℕ) (code : ℕ) (shown : List ℕ) → EndsCut loaded hints per_segment n lengths code shown → GoesPast loaded hints per_segment → ⊥
+  pub traps_or_goes_past : (trap : Cause) → TrapsCut loaded hints per_segment trap → GoesPast loaded hints per_segment → ⊥
+
+abbrev pub SurveyIsOne : Type 0
+SurveyIsOne = (loaded : Loaded) (hints : List ℕ) (per_segment : ℕ) → IsOneWay loaded hints per_segment
