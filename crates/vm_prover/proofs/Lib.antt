@@ -1,2 +1,7 @@
 pub mod HintLemmas
 pub mod StepLemmas
+pub mod EntryLemmas
+pub mod LeafLemmas
+pub mod ChainLemmas
+pub mod SegmentLemmas
+pub mod EndLemmas
