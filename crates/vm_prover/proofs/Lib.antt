@@ -1,3 +1,10 @@
 pub mod Going
 pub mod Lengths
 pub mod OneWay
+pub mod HintLemmas
+pub mod StepLemmas
+pub mod EntryLemmas
+pub mod LeafLemmas
+pub mod ChainLemmas
+pub mod SegmentLemmas
+pub mod EndLemmas

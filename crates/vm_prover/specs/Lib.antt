@@ -1,3 +1,6 @@
 pub mod Cut
 pub mod Survey
 pub mod Cutting
+pub mod Progress
+pub mod Laws
+pub mod Proving

@@ -1,11 +1,14 @@
-//! Proving a run: its table file, segment by segment.
+//! A prover: it runs an image, and writes a file of tables that states the run.
 #![tactic(auto)]
 
 mod cuts;
 mod cutting;
+pub mod laws;
 mod plain_run;
+mod proving;
 
 pub use cuts::{cuts_are_within_limits, cuts_grow, survey_is_one};
 pub use cutting::Cutting;
 pub use plain_run::{Surveyed, survey};
+pub use proving::{Proved, Proving};
 pub use std::alloc::AllocError as OutOfMemory;

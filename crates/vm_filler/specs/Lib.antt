@@ -1,0 +1,5 @@
+pub mod Tables
+pub mod Uses
+pub mod Segment
+pub mod Hints
+pub mod Laws

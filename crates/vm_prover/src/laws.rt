@@ -1,0 +1,37 @@
+//! What whole segments come to. Each function does nothing: its contract is the law.
+ghost use Rattle.vm_prover.specs.Laws.{NoSegmentsStand, SegmentsComeUnderWay, RecordsGoOn, RecordsCanBeFilled, SegmentsGoOn, EachVersionTakes16384, EndedSegmentsProve, EndingRunsGoOn};
+
+use air_core::Extension;
+
+/// Before the first segment there is the image alone.
+pub fn no_segments_stand<E: Extension>()
+    ensures { (ext : E) → NoSegmentsStand (E.system ext) }
+{}
+
+/// Where whole segments stand, one more comes under way, each completed step is a record more of it, and
+/// its records can be filled.
+pub fn a_segment_is_under_way<E: Extension>()
+    ensures begins { (ext : E) → SegmentsComeUnderWay (E.system ext) }
+    ensures goes_on { (ext : E) → RecordsGoOn (E.system ext) }
+    ensures fillable { (ext : E) → RecordsCanBeFilled (E.system ext) }
+{}
+
+/// A segment more, filled from these records, stands with those before it.
+pub fn segments_go_on<E: Extension>()
+    ensures { (ext : E) → SegmentsGoOn (E.system ext) }
+{}
+
+/// Every version takes segments of 16,384 records.
+pub fn each_version_takes_16384()
+    ensures { EachVersionTakes16384 }
+{}
+
+/// Where the run ends behind the last segment, the file is accepted and states the run.
+pub fn ended_segments_prove<E: Extension>()
+    ensures { (ext : E) → EndedSegmentsProve (E.system ext) }
+{}
+
+/// The machine goes on as long as a run that ends, and ends with its exit code.
+pub fn ending_runs_go_on()
+    ensures { EndingRunsGoOn }
+{}
