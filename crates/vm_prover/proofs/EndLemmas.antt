@@ -35,9 +35,8 @@ use Rattle.acceptance.specs.Spelled.{hints_before}
 use Rattle.acceptance.proofs.CanonicalTrees.{path_canonical}
 use Rattle.acceptance.proofs.Example.{end_in_range, path_levels, path_digests_of}
 use Rattle.vm_prover.specs.Laws.{EndedSegmentsProve, EndingRunsGoOn}
-use Rattle.vm_prover.specs.Progress.{CanProve, Progress, Proves, file_of}
+use Rattle.vm_prover.specs.Progress.{CanProve, Progress, StatesRun, file_of}
 use Rattle.vm_prover.proofs.ChainLemmas.{steps_are_sum}
-use Rattle.vm_prover.proofs.HintLemmas.{before_split}
 use Rattle.vm_prover.proofs.LeafLemmas.{public_leaf}
 
 -- ---- steps on the way of a run
@@ -81,7 +80,7 @@ module _ (x : System) (version : ℕ) (image : Loaded) (hints : Hints) (segments
       let end = (ends_by_row can.file.bytes image can.file.has_image ending.last code).0 ending.ended in
       record { row = end.row; stands = end.stands; here = end.here ∙ sym same.1.pc ∙ sym p.pc_is; is_end = end.is_end; states = end.states }
 
-  pub shown : leaves PUBLIC_LABEL ≡ public_bytes
+  shown : leaves PUBLIC_LABEL ≡ public_bytes
   shown = public_leaf leaves m.now ending.last p.blocks p.whole same.0 (vm_state m) refl same.1 ∙ ending.shown
 
   shown_bytes : IsBytes (leaves PUBLIC_LABEL)
@@ -120,21 +119,18 @@ module _ (x : System) (version : ℕ) (image : Loaded) (hints : Hints) (segments
         };
       }
 
-  pub proved : Proves x image hints (sum lengths) (file_of version segments code leaves)
-  proved = record {
+  pub states_run : StatesRun x image hints lengths code public_bytes (file_of version segments code leaves)
+  states_run = record {
     accepts = accepted;
+    code_is = refl;
+    public_are = shown;
+    rows = p.rows;
     steps_are = steps_are_sum x segments lengths p.rows;
     spelled = p.spelled;
     spell = p.spell;
-    takes = record {
-      last = ending.last;
-      reached = ending.reached;
-      split = ap (λ (rest : List ℕ). hints_before p.spelled [] ++ rest) (sym same.1.hints) ∙ sym (before_split p.spelled m.hints) ∙ p.taken;
-    };
+    takes = record { last = ending.last; reached = ending.reached; taken = ap (hints_before p.spelled) (sym same.1.hints) ∙ p.taken };
   }
 
 pub ended_segments_prove : (x : System) → EndedSegmentsProve x
-ended_segments_prove x version image hints segments lengths m leaves code public_bytes can p some few ending = (
-  proved x version image hints segments lengths m leaves code public_bytes can p some few ending,
-  shown x version image hints segments lengths m leaves code public_bytes can p some few ending,
-)
+ended_segments_prove x version image hints segments lengths m leaves code public_bytes can p some few ending =
+    states_run x version image hints segments lengths m leaves code public_bytes can p some few ending

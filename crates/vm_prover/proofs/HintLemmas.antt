@@ -24,12 +24,6 @@ before_joined [] b rest = refl
 before_joined (Word word ∷ a) b rest = ap (λ (bytes : List ℕ). map low_byte word ++ bytes) (before_joined a b rest)
 before_joined (NextFrame ∷ a) b rest = before_joined a b rest
 
--- what is left stands behind
-pub before_split : (a : List HintEvent) (rest : List ℕ) → hints_before a rest ≡ hints_before a [] ++ rest
-before_split [] rest = refl
-before_split (Word word ∷ a) rest = ap (λ (bytes : List ℕ). map low_byte word ++ bytes) (before_split a rest) ∙ sym (append_assoc (map low_byte word) (hints_before a []) rest)
-before_split (NextFrame ∷ a) rest = before_split a rest
-
 -- the low bytes of bytes
 low_same : (xs : List ℕ) → IsBytes xs → map low_byte xs ≡ xs
 low_same [] h = refl

@@ -8,3 +8,4 @@ pub mod LeafLemmas
 pub mod ChainLemmas
 pub mod SegmentLemmas
 pub mod EndLemmas
+pub mod PutLemmas

@@ -3,11 +3,13 @@ use Rattle.std.proofs.Common.{◌≡◌, ◌≢◌, ℕ, zero, suc, ◌+◌, ◌
 use Rattle.std.specs.Prelude.{map, sum, if◌then◌else◌, All}
 use Rattle.std.specs.List.{AllByRecursion}
 use Rattle.std.proofs.lemmas.Bool.{both_ways}
+use Rattle.std.proofs.lemmas.Bool.Decides.{nat_tests}
 use Rattle.std.proofs.lemmas.List.Elements.{All-contains}
 use Rattle.vm_isa.specs.declared.instr.VmInstr.{VmInstr}
 use Rattle.vm_isa.specs.declared.record.StepRecord.{StepRecord}
 use Rattle.vm_isa.specs.Instr.{InRange}
 use Rattle.vm_isa.specs.Means.{Fillable, Meaning, is_refused, means_of}
+use Rattle.vm_isa.specs.Opcodes.{has_meaning, is_opcode}
 use Rattle.vm_isa.specs.Slots.{slots_of}
 use Rattle.vm_isa.proofs.NextLaws.{meant}
 use Rattle.vm_transpile.specs.Program.{program_of}
@@ -18,7 +20,7 @@ use Rattle.air_core.specs.System.{System, is_owned}
 use Rattle.vm_executor.specs.Machine.{Machine, begun, Goes}
 use Rattle.vm_executor.specs.Runs.{Ran, StaysOrBegins, starting}
 use Rattle.vm_executor.proofs.SinceLemmas.{since_begun, since_more, since_records, step_fillable}
-use Rattle.vm_prover.specs.Laws.{SegmentsComeUnderWay, RecordsGoOn, RecordsCanBeFilled}
+use Rattle.vm_prover.specs.Laws.{AllOpcodesOwnRows, SegmentsComeUnderWay, RecordsGoOn, RecordsCanBeFilled}
 use Rattle.vm_prover.specs.Progress.{CanProve, UnderWay}
 use Rattle.vm_prover.proofs.HintLemmas.{hints_more, bytes_left}
 
@@ -86,3 +88,15 @@ records_go_on x fits version image hints from s t steps done d can u few goes =
 
 pub records_can_be_filled : (x : System) → RecordsCanBeFilled x
 records_can_be_filled x image hints from m steps done u few = since_records x (program_of image) from.pc done m u.since few u.owned u.fillable
+
+-- ---- rows
+
+meaning_by : (op : ℕ) → is_opcode op ≡ true → op ≢ 41 → has_meaning op ≡ true
+meaning_by op is other = grind (arith, nat_tests)
+
+pub all_opcodes_own_rows : (x : System) → AllOpcodesOwnRows x
+all_opcodes_own_rows x image file owns = record {
+  owned = λ row stands other.
+      let range : InRange row = All-contains InRange (program_of image) row (rows_in_range file.bytes image file.has_image) stands in
+      owns row.op (meaning_by row.op range.opcode other);
+}

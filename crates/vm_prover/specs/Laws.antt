@@ -1,17 +1,19 @@
 -- What whole segments come to. Each law is the contract of a function in src/laws.rt.
-use Rattle.std.specs.Prelude.{◌≡◌, ℕ, ◌+◌, ◌*◌, ◌<◌, ◌≤◌, Bool, true, false, List, [], ◌∷◌, ◌++◌, length, sum}
+use Rattle.std.specs.Prelude.{◌≡◌, ℕ, ◌+◌, ◌*◌, ◌<◌, ◌≤◌, Bool, true, false, List, [], ◌∷◌, ◌++◌, length, sum, take, slice_get, Some}
+use Rattle.std.specs.List.Sorted.{IsStrictlyIncreasing}
 use Rattle.elf_image.specs.Image.{IsOfAFile}
 use Rattle.elf_image.specs.Loaded.{Loaded}
 use Rattle.rv_run.specs.Run.{Ends}
 use Rattle.vm_isa.specs.declared.record.StepRecord.{StepRecord}
 use Rattle.vm_isa.specs.Hints.{Hints}
+use Rattle.vm_isa.specs.Opcodes.{has_meaning}
 use Rattle.vm_isa.specs.Words.{IsBytes}
-use Rattle.vm_trace.specs.declared.page.TheConstants.{PUBLIC_LABEL}
 use Rattle.vm_trace.specs.declared.page.Touched.{Touched}
 use Rattle.vm_trace.specs.Contents.{Contents}
 use Rattle.vm_trace.specs.File.{Segment}
-use Rattle.air_core.specs.System.{System}
-use Rattle.page_tree.specs.Parts.{with_pages}
+use Rattle.air_core.specs.System.{System, is_owned}
+use Rattle.page_tree.specs.Kept.{put_at}
+use Rattle.page_tree.specs.Parts.{labels_of, with_pages}
 use Rattle.page_tree.specs.Start.{start_map}
 use Rattle.page_tree.specs.Tree.{Leaves}
 use Rattle.vm_transpile.specs.Program.{program_of}
@@ -23,7 +25,11 @@ use Rattle.vm_executor.specs.Records.{AreRecords}
 use Rattle.vm_executor.specs.Runs.{IsWent, Ran, starting}
 use Rattle.vm_executor.specs.State.{IsStep}
 use Rattle.vm_filler.specs.Segment.{SegmentFilled}
-use Rattle.vm_prover.specs.Progress.{CanProve, UnderWay, Progress, FitsVersion, Proves, segment_from, file_of}
+use Rattle.vm_prover.specs.Progress.{CanProve, OwnsRows, UnderWay, Progress, FitsVersion, StatesRun, segment_from, file_of}
+
+-- tables for all opcodes of steps are tables for the rows of every program
+abbrev pub AllOpcodesOwnRows : System → Type 0
+AllOpcodesOwnRows x = (image : Loaded) → IsOfAFile image → ((op : ℕ) → has_meaning op ≡ true → is_owned x.parts op ≡ true) → OwnsRows x (program_of image)
 
 -- before the first segment
 abbrev pub NoSegmentsStand : System → Type 0
@@ -52,15 +58,20 @@ SegmentsGoOn x = (version : ℕ) (image : Loaded) (hints : Hints) (segments : Li
     → SegmentFilled x (program_of image) done c → AreTouched m.start m.now m.times pages
     → Progress x version image hints ends (segments ++ segment_from from done c ends leaves pages ∷ []) (lengths ++ length done ∷ []) m (with_pages leaves pages)
 
+-- Where the first pages of a segment were put into a tree, the next one gives the leaves with one page more.
+abbrev pub PutsGoOn : Type 0
+PutsGoOn = (leaves : Leaves) (pages : List Touched) (k : ℕ) (page : Touched) → IsStrictlyIncreasing (labels_of pages) → slice_get pages k ≡ Some page
+    → put_at (with_pages leaves (take k pages)) page.label page.new ≡ with_pages leaves (take (k + 1) pages)
+
 -- every version takes segments of 16,384 records
 abbrev pub EachVersionTakes16384 : Type 0
 EachVersionTakes16384 = (version number : ℕ) → number ≤ 16384 → FitsVersion version number
 
--- After the last one, where the run ends, the file is proved, and the leaf of public bytes is the run's.
+-- After the last one, where the run ends, the file is accepted and states the run.
 abbrev pub EndedSegmentsProve : System → Type 0
 EndedSegmentsProve x = (version : ℕ) (image : Loaded) (hints : Hints) (segments : List Segment) (lengths : List ℕ) (m : Machine) (leaves : Leaves) (code : ℕ) (public_bytes : List ℕ) → CanProve x version image hints
     → Progress x version image hints true segments lengths m leaves → 1 ≤ length lengths → length lengths ≤ 4096 → Ends image hints (sum lengths) code public_bytes
-    → Proves x image hints (sum lengths) (file_of version segments code leaves) × (leaves PUBLIC_LABEL ≡ public_bytes)
+    → StatesRun x image hints lengths code public_bytes (file_of version segments code leaves)
 
 -- On the way of a run that ends after n steps, each step goes on, and at its end the machine ends with its exit code.
 abbrev pub EndingRunsGoOn : Type 0

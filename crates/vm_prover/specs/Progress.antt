@@ -1,5 +1,5 @@
 -- Whole segments, one after the other, as a prover writes them, and the records of the one that is under way.
-use Rattle.std.specs.Prelude.{◌≡◌, ◌≢◌, ℕ, ◌+◌, ◌*◌, ◌≤◌, Bool, true, false, List, [], ◌++◌, length, map, sum, Contains}
+use Rattle.std.specs.Prelude.{◌≡◌, ◌≢◌, ℕ, ◌+◌, ◌*◌, ◌≤◌, Bool, true, false, List, length, map, sum, Contains}
 use Rattle.std.specs.List.{AllByRecursion}
 use Rattle.elf_image.specs.Image.{IsOfAFile}
 use Rattle.elf_image.specs.Loaded.{Loaded}
@@ -107,17 +107,20 @@ file_of version segments code leaves = record {
   path = path_of leaves PUBLIC_LABEL;
 }
 
--- The hint bytes that n steps of the manual's machine take: its state after them has the others.
-pub record Takes (image : Loaded) (hints : Hints) (n : ℕ) (taken : List ℕ) : Type 0 where
+-- These are the hints that so many steps of the manual's machine take: its state after them has those behind.
+pub record TakesHints (image : Loaded) (hints : Hints) (steps : ℕ) (events : List HintEvent) : Type 0 where
   pub last : Manual
-  pub reached : Goes image hints n last
-  pub split : taken ++ last.hints ≡ hints
+  pub reached : Goes image hints steps last
+  pub taken : hints_before events last.hints ≡ hints
 
--- What a file of these segments comes to, where the run ends with this exit code: it is accepted, it has as many steps
--- as the run, and it spells the hints that the run takes.
-pub record Proves (x : System) (image : Loaded) (hints : Hints) (steps : ℕ) (file : File) : Type 0 where
+-- A file is accepted and states a run on these hints that was cut into segments of these lengths, and ended so: each
+-- segment has as many valid rows, and together they spell the hints that the run takes.
+pub record StatesRun (x : System) (image : Loaded) (hints : Hints) (lengths : List ℕ) (code : ℕ) (public_bytes : List ℕ) (file : File) : Type 0 where
   pub accepts : Accepts x image file
-  pub steps_are : steps_in x file.segments ≡ steps
+  pub code_is : file.code ≡ code
+  pub public_are : file.public_bytes ≡ public_bytes
+  pub rows : map (valid_rows x) file.segments ≡ lengths
+  pub steps_are : steps_in x file.segments ≡ sum lengths
   pub spelled : List HintEvent
   pub spell : Spell x file.segments spelled
-  pub takes : Takes image hints steps (hints_before spelled [])
+  pub takes : TakesHints image hints (sum lengths) spelled

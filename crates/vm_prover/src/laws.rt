@@ -1,7 +1,12 @@
 //! What whole segments come to. Each function does nothing: its contract is the law.
-ghost use Rattle.vm_prover.specs.Laws.{NoSegmentsStand, SegmentsComeUnderWay, RecordsGoOn, RecordsCanBeFilled, SegmentsGoOn, EachVersionTakes16384, EndedSegmentsProve, EndingRunsGoOn};
+ghost use Rattle.vm_prover.specs.Laws.{AllOpcodesOwnRows, NoSegmentsStand, SegmentsComeUnderWay, RecordsGoOn, RecordsCanBeFilled, SegmentsGoOn, PutsGoOn, EachVersionTakes16384, EndedSegmentsProve, EndingRunsGoOn};
 
 use air_core::Extension;
+
+/// An extension of all opcodes of steps owns the rows of every program.
+pub fn all_opcodes_own_rows<E: Extension>()
+    ensures { (ext : E) → AllOpcodesOwnRows (E.system ext) }
+{}
 
 /// Before the first segment there is the image alone.
 pub fn no_segments_stand<E: Extension>()
@@ -19,6 +24,11 @@ pub fn a_segment_is_under_way<E: Extension>()
 /// A segment more, filled from these records, stands with those before it.
 pub fn segments_go_on<E: Extension>()
     ensures { (ext : E) → SegmentsGoOn (E.system ext) }
+{}
+
+/// Pages that are put one after the other give the leaves with all of them.
+pub fn puts_go_on()
+    ensures { PutsGoOn }
 {}
 
 /// Every version takes segments of 16,384 records.
