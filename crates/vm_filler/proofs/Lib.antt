@@ -1,0 +1,14 @@
+mod Exchange
+mod Lawful
+mod Owners
+mod FixedRows
+mod Entries
+mod RecordSums
+mod SevenLists
+mod Sent
+mod Balance
+mod Limits
+mod SegmentHolds
+mod RecordHints
+mod Counting
+mod Spells
