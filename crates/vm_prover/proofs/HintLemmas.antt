@@ -16,13 +16,9 @@ use Rattle.vm_isa.proofs.NextLaws.{meant}
 use Rattle.vm_transpile.proofs.Kept.{all_take, all_drop}
 use Rattle.vm_executor.specs.Machine.{Machine, Goes}
 use Rattle.acceptance.specs.Spelled.{HintEvent, Word, NextFrame, hints_before, low_byte}
+use Rattle.acceptance.proofs.Hints.{hint_places}
+use Rattle.acceptance.proofs.Whole.{before_joined}
 use Rattle.vm_filler.specs.Hints.{word_left, hint_of, hints_of}
-
--- hints that are joined
-pub before_joined : (a b : List HintEvent) (rest : List ℕ) → hints_before (a ++ b) rest ≡ hints_before a (hints_before b rest)
-before_joined [] b rest = refl
-before_joined (Word word ∷ a) b rest = ap (λ (bytes : List ℕ). map low_byte word ++ bytes) (before_joined a b rest)
-before_joined (NextFrame ∷ a) b rest = before_joined a b rest
 
 -- the low bytes of bytes
 low_same : (xs : List ℕ) → IsBytes xs → map low_byte xs ≡ xs
@@ -43,10 +39,6 @@ new_words time (a ∷ xs) (b ∷ ys) same =
     let both = placed_same (placed a) (placed_at time b) (map placed xs) (map (placed_at time) ys) same in
     let first : a.access.new ≡ b.new = ap (λ (p : Placed). p.new) both.0 in
     rw first (ap (λ (words : List (List ℕ)). b.new ∷ words) (new_words time xs ys both.1))
-
-hint_places : (i : VmInstr) (b c : ℕ) → i.op ≡ 37 → length (places_by i b c) ≡ 2
-unfolding places_by
-hint_places i b c h = rw h refl
 
 hint_news : (i : VmInstr) (x y : List ℕ) (given : List ℕ) → i.op ≡ 37 → map (λ a. a.new) ((whole i (x ∷ y ∷ []) given).accesses) ≡ x ∷ given ∷ []
 unfolding places_by accessed_by new_at

@@ -26,6 +26,7 @@ use Rattle.page_tree.proofs.PartLemmas.{labelled_bytes-place, labels_of-place, l
 use Rattle.page_tree.proofs.TreeLemmas.{has-true, has-from, replaced-at, replaced-other}
 use Rattle.vm_executor.specs.Pages.{Times, AreTouched, Shows}
 use Rattle.acceptance.specs.Holds.{IsMachinePage}
+use Rattle.acceptance.proofs.Start.{four_more, public_block}
 use Rattle.acceptance.proofs.Segments.{are_pages}
 
 -- ---- bytes by their blocks
@@ -118,26 +119,12 @@ module _ (leaves : Leaves) (start now : Blocks) (times : Times) (pages : List To
 
 -- ---- public bytes
 
-four_places : (xs : List ℕ) (j : ℕ) → 4 * j + 4 ≤ length xs → take 4 (drop (4 * j) xs) ≡ block_word xs j
-four_places xs j h = four_from xs (4 * j) h
-  where
-    four_from : (ys : List ℕ) (k : ℕ) → k + 4 ≤ length ys → take 4 (drop k ys) ≡ slice_index ys k ∷ slice_index ys (k + 1) ∷ slice_index ys (k + 2) ∷ slice_index ys (k + 3) ∷ []
-    four_from [] k low = absurd (omega (arith, low))
-    four_from (a ∷ []) zero low = absurd (omega (arith, low))
-    four_from (a ∷ b ∷ []) zero low = absurd (omega (arith, low))
-    four_from (a ∷ b ∷ c ∷ []) zero low = absurd (omega (arith, low))
-    four_from (a ∷ b ∷ c ∷ d ∷ ys) zero low = refl
-    four_from (y ∷ ys) (suc k) low = let rest = four_from ys k (omega (arith, low)) in simp unary_clauses (simp unary_clauses at rest)
-
 -- the leaf of public bytes is those of the manual's machine
 pub public_leaf : (leaves : Leaves) (now : Blocks) (manual : Manual) → AreBlocksOf leaves now → ((label : ℕ) → length (leaves label) ≡ 64) → IsMachine manual → (s : VmState) → s.blocks ≡ now → Same manual s
     → leaves PUBLIC_LABEL ≡ manual.public_bytes
 public_leaf leaves now manual are long is s blocks same =
     same_blocks (leaves PUBLIC_LABEL) manual.public_bytes (long PUBLIC_LABEL) is.public_count (λ j small.
-    let on : is_block 3 (4 * j) ≡ true = grind (arith, nat_tests) in
-    let label : SPACE_PAGES * 3 + 4 * j / 64 ≡ PUBLIC_LABEL = omega (arith, small) in
-    let block : 4 * j % 64 / 4 ≡ j = omega (arith, small) in
-    sym (are.each 3 (4 * j) on ∙ ap (λ (n : ℕ). block_word (leaves n) (4 * j % 64 / 4)) label ∙ ap (block_word (leaves PUBLIC_LABEL)) block)
+    sym (public_block leaves now are j small)
     ∙ sym (ap (λ (b : Blocks). b 3 (4 * j)) blocks)
     ∙ same.public_bytes j small
-    ∙ four_places manual.public_bytes j (omega (arith, small, is.public_count)))
+    ∙ sym (ap (take 4) (four_more manual.public_bytes (4 * j) (omega (arith, small, is.public_count)))))

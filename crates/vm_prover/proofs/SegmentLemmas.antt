@@ -33,6 +33,7 @@ use Rattle.acceptance.specs.Holds.{SegmentHolds}
 use Rattle.acceptance.specs.Spelled.{HintEvent, hints_before}
 use Rattle.acceptance.proofs.CanonicalTrees.{siblings_canonical}
 use Rattle.acceptance.proofs.Start.{start_blocks_are}
+use Rattle.acceptance.proofs.Whole.{before_joined}
 use Rattle.vm_filler.specs.Hints.{hints_of}
 use Rattle.vm_filler.specs.Laws.{FilledSegmentsHold, FilledSegmentsAreCanonical, FilledSegmentsCountRecords, FilledSegmentsSpell}
 use Rattle.vm_filler.specs.Segment.{SegmentFilled, IsFilledSegment}
@@ -40,7 +41,6 @@ use Rattle.vm_prover.specs.Laws.{NoSegmentsStand, SegmentsGoOn}
 use Rattle.vm_prover.specs.Progress.{CanProve, UnderWay, Progress, FitsVersion, segment_from}
 use Rattle.vm_prover.proofs.ChainLemmas.{linked_more, last_pc_more, last_root_more, last_pc_low, ends_more, rows_more, sum_more, spell_more}
 use Rattle.vm_prover.proofs.EntryLemmas.{entry_low}
-use Rattle.vm_prover.proofs.HintLemmas.{before_joined}
 use Rattle.vm_prover.proofs.LeafLemmas.{rising, machine, leaves_match, leaves_after, leaves_long}
 
 pub no_segments : (x : System) → NoSegmentsStand x
