@@ -12,3 +12,6 @@ mod SegmentHolds
 mod RecordHints
 mod Counting
 mod Spells
+mod EntriesFit
+mod Bounds
+mod Canonical

@@ -66,7 +66,7 @@ filled_few [] p rows = omega arith
 filled_few (d ∷ done) p rows = omega (arith, rows.few d, filled_few done p rows)
 
 -- a height is at most twice the rows
-next_power : (k : ℕ) → 2 ^ suc k ≡ 2 * 2 ^ k
+pub next_power : (k : ℕ) → 2 ^ suc k ≡ 2 * 2 ^ k
 next_power k = let e : suc k ≡ 1 + k = omega arith in ap (λ (n : ℕ). 2 ^ n) e ∙ pow-add 2 1 k
 
 by_power : (rows height k : ℕ) → IsHeight rows height → height ≡ 2 ^ k → 1 ≤ rows → height ≤ 2 * rows

@@ -66,7 +66,7 @@ second_owns false b h e = h
 -- ---- a weight of rows that say nothing there is 0, and that of a row that says the record is known
 
 module _ (w : Sheet → List ℕ → ℕ) (d : StepRecord) (v : ℕ) (silent : (sheet : Sheet) (row : List ℕ) → IsSilent (row_events sheet row) → w sheet row ≡ 0)
-  (says : (sheet : Sheet) (row : List ℕ) → Recorded d (row_events sheet row) → w sheet row ≡ v) (bits : ℕ) (private : ℕ → Bool) where
+    (says : (sheet : Sheet) (row : List ℕ) → Recorded d (row_events sheet row) → w sheet row ≡ v) (bits : ℕ) (private : ℕ → Bool) where
   none_of : (sheet : Sheet) (rows : List (List ℕ)) → AllByRecursion (λ row. IsSilent (row_events sheet row)) rows → weight (w sheet) rows ≡ 0
   none_of sheet [] h = refl
   none_of sheet (row ∷ rows) h = omega (arith, silent sheet row h.0, none_of sheet rows h.1)

@@ -189,7 +189,7 @@ module _ (h : HintWord) where
   over_once (p ∷ parts) d one owned =
       ⊎_elim
       (λ (mine : p.sheet.owns d.instr.op ≡ true). rw mine (omega (arith, over_none parts d (one.0 d.instr.op mine))))
-      (λ (other : p.sheet.owns d.instr.op ≡ false). 
+      (λ (other : p.sheet.owns d.instr.op ≡ false).
       let nothing : counts (taken_in p d) ≡ 0 = rw other refl in
       omega (arith, nothing, over_once parts d one.1 (second_owns (p.sheet.owns d.instr.op) (is_owned parts d.instr.op) owned other)))
       (cases_Bool (p.sheet.owns d.instr.op))
