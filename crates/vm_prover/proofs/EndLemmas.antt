@@ -1,21 +1,19 @@
 -- The end of a run, and the file of its segments.
-use Rattle.std.proofs.Common.{◌≡◌, ℕ, zero, suc, ◌+◌, ◌*◌, ◌^◌, ◌<◌, ◌≤◌, Bool, true, false, List, [], ◌∷◌, ◌++◌, length, map, Some, inl, inr, refl, sym, ap, ◌∙◌, subst, arith, ⊎_elim}
+use Rattle.std.proofs.Common.{◌≡◌, ℕ, zero, suc, ◌<◌, ◌≤◌, true, List, length, refl, sym, ap, ◌∙◌, subst, arith, ⊎_elim}
 use Rattle.std.specs.Prelude.{sum}
-use Rattle.std.specs.List.{AllByRecursion}
 use Rattle.std.proofs.lemmas.Bool.{cases_lt}
 use Rattle.std.proofs.lemmas.List.{length-map}
-use Rattle.elf_image.specs.Image.{IsOfAFile}
 use Rattle.elf_image.specs.Loaded.{Loaded}
 use Rattle.rv_run.specs.Machine.{Machine as Manual}
 use Rattle.rv_run.specs.Run.{Goes, Ends}
-use Rattle.rv_run.specs.Step.{goes, ends, step_of}
+use Rattle.rv_run.specs.Step.{goes, step_of}
 use Rattle.vm_isa.specs.Blocks.{Terminates}
 use Rattle.vm_isa.specs.Hints.{Hints}
 use Rattle.vm_isa.specs.Words.{IsBytes}
 use Rattle.vm_trace.specs.declared.page.TheConstants.{PUBLIC_LABEL}
 use Rattle.vm_trace.specs.File.{Segment}
 use Rattle.air_core.specs.System.{System}
-use Rattle.page_tree.specs.Path.{path_of, climb}
+use Rattle.page_tree.specs.Path.{path_of}
 use Rattle.page_tree.specs.Start.{start_map}
 use Rattle.page_tree.specs.Tree.{Leaves, root}
 use Rattle.page_tree.proofs.PathLemmas.{climb-path_of}
@@ -23,13 +21,9 @@ use Rattle.vm_transpile.specs.Program.{program_of}
 use Rattle.vm_transpile.specs.Refines.{HasText}
 use Rattle.vm_transpile.specs.Same.{IsMachine, Same}
 use Rattle.vm_transpile.proofs.Refinement.{ends_by_row, went_text, ended_text}
-use Rattle.vm_executor.specs.declared.machine.Machined.{Machined}
-use Rattle.vm_executor.specs.declared.machine.Machined.TheVariants.{Ended}
 use Rattle.vm_executor.specs.Machine.{Machine, vm_state}
-use Rattle.vm_executor.specs.Runs.{IsWent, Ran, starting}
-use Rattle.vm_executor.specs.State.{IsStep}
 use Rattle.vm_executor.proofs.RunLemmas.{runs_are_the_manuals, runs_go_along}
-use Rattle.acceptance.specs.Accepts.{Accepts, ClaimHolds, last_pc, last_root, shape_of, steps_in, IsPublic}
+use Rattle.acceptance.specs.Accepts.{Accepts, last_pc, last_root, IsPublic}
 use Rattle.acceptance.specs.Events.{valid_rows}
 use Rattle.acceptance.specs.Spelled.{hints_before}
 use Rattle.acceptance.proofs.CanonicalTrees.{path_canonical}

@@ -1,10 +1,9 @@
 -- Where a run and its segments begin.
-use Rattle.std.proofs.Common.{◌≡◌, ℕ, ◌+◌, ◌^◌, ◌<◌, ◌≤◌, List, [], ◌∷◌, length, Option, Some, None, refl, sym, ap, ◌∙◌, subst, arith, ⊎_elim, Any}
+use Rattle.std.proofs.Common.{◌≡◌, ℕ, ◌+◌, ◌^◌, ◌<◌, ◌≤◌, List, length, Option, Some, None, refl, sym, ap, subst, arith, ⊎_elim, Any}
 use Rattle.std.specs.Prelude.{◌&&◌}
-use Rattle.std.specs.List.{AllByRecursion}
 use Rattle.std.proofs.lemmas.Bool.{and_parts, cases_lt}
 use Rattle.elf_image.specs.declared.ImageError.TheVariants.{SegmentSize, Range, Entry}
-use Rattle.elf_image.specs.Loaded.{Load, Loaded, word_in, word_of, gives}
+use Rattle.elf_image.specs.Loaded.{Load, Loaded, word_of, gives}
 use Rattle.elf_image.specs.Elf.{e_entry, load_headers}
 use Rattle.elf_image.specs.Image.{HasImage, in_file, load_of}
 use Rattle.elf_image.proofs.Members.{In, in_map, place_in}

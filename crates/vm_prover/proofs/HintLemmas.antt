@@ -1,21 +1,20 @@
 -- The hints that records take.
-use Rattle.std.proofs.Common.{◌≡◌, ℕ, ◌+◌, ◌%◌, ◌<◌, ◌≤◌, Bool, true, false, nat_eq, List, [], ◌∷◌, ◌++◌, length, map, take, drop, append_assoc, append-nil, Some, refl, sym, ap, ◌∙◌, subst, arith}
-use Rattle.std.specs.Prelude.{flat_map, slice_index_or, if◌then◌else◌}
-use Rattle.std.specs.List.{AllByRecursion}
+use Rattle.std.proofs.Common.{◌≡◌, ℕ, ◌%◌, Bool, true, false, nat_eq, List, [], ◌∷◌, ◌++◌, length, map, take, drop, append-nil, refl, sym, ap, ◌∙◌, subst, arith}
+use Rattle.std.specs.Prelude.{slice_index_or, if◌then◌else◌}
 use Rattle.std.proofs.lemmas.Bool.Decides.{nat_tests}
 use Rattle.std.proofs.lemmas.Grind.{flat_map-append}
 use Rattle.std.proofs.lemmas.List.{take-append-drop}
 use Rattle.vm_isa.specs.declared.access.TimedAccess.{TimedAccess}
 use Rattle.vm_isa.specs.declared.instr.VmInstr.{VmInstr}
 use Rattle.vm_isa.specs.declared.record.StepRecord.{StepRecord}
-use Rattle.vm_isa.specs.Hints.{Hints, AreEnough, hints_after, hints_used, next_hint}
-use Rattle.vm_isa.specs.Means.{Accessed, Placed, Meaning, means_of, placed, placed_at, places_by, places_of, accessed_by, new_at, word_at}
+use Rattle.vm_isa.specs.Hints.{hints_used, next_hint}
+use Rattle.vm_isa.specs.Means.{Accessed, Placed, Meaning, placed, placed_at, places_by, accessed_by, new_at, word_at}
 use Rattle.vm_isa.specs.Words.{IsBytes}
 use Rattle.vm_isa.proofs.MeansLaws.{whole}
 use Rattle.vm_isa.proofs.NextLaws.{meant}
 use Rattle.vm_transpile.proofs.Kept.{all_take, all_drop}
 use Rattle.vm_executor.specs.Machine.{Machine, Goes}
-use Rattle.acceptance.specs.Spelled.{HintEvent, Word, NextFrame, hints_before, low_byte}
+use Rattle.acceptance.specs.Spelled.{HintEvent, Word, hints_before, low_byte}
 use Rattle.acceptance.proofs.Hints.{hint_places}
 use Rattle.acceptance.proofs.Whole.{before_joined}
 use Rattle.vm_filler.specs.Hints.{word_left, hint_of, hints_of}

@@ -1,21 +1,19 @@
 -- The leaves of a tree beside the machine's memory, before and after a segment.
-use Rattle.std.proofs.Common.{◌≡◌, ℕ, zero, suc, ◌+◌, ◌*◌, ◌/◌, ◌%◌, ◌<◌, ◌≤◌, true, false, eqb, List, [], ◌∷◌, length, map, take, drop, get_or, inl, inr, refl, sym, ap, ◌∙◌, subst, arith, ⊎_elim}
+use Rattle.std.proofs.Common.{◌≡◌, ℕ, zero, suc, ◌+◌, ◌*◌, ◌/◌, ◌%◌, ◌<◌, true, false, eqb, List, [], ◌∷◌, length, take, get_or, inl, inr, refl, sym, ap, ◌∙◌, subst, arith, ⊎_elim}
 use Rattle.std.specs.Prelude.{All, slice_index, Contains}
 use Rattle.std.specs.List.{AllByRecursion, list_any}
 use Rattle.std.specs.List.Sorted.{IsStrictlyIncreasing}
 use Rattle.std.proofs.lemmas.Bool.{cases_Bool, both_ways}
-use Rattle.std.proofs.lemmas.Bool.Decides.{nat_tests}
 use Rattle.std.proofs.lemmas.Grind.{same_number_lists}
 use Rattle.std.proofs.lemmas.List.{get_or_default}
 use Rattle.std.proofs.lemmas.List.Elements.{All-contains, All-from_recursion, recursion_from_All, Contains-get_or}
-use native.Mathlib.Numerals.{unary_clauses}
 use Rattle.rv_run.specs.Machine.{Machine as Manual}
-use Rattle.vm_isa.specs.Blocks.{Blocks, VmState, is_block}
+use Rattle.vm_isa.specs.Blocks.{Blocks, VmState}
 use Rattle.vm_transpile.specs.Same.{IsMachine, Same}
 use Rattle.vm_trace.specs.declared.page.TheConstants.{SPACE_PAGES, PUBLIC_LABEL}
 use Rattle.vm_trace.specs.declared.page.Touched.{Touched}
 use Rattle.vm_trace.specs.Pages.{page_space, block_pointer, block_word, IsMachineLabel, IsWhole}
-use Rattle.vm_trace.specs.PageBlocks.{ArePages, HasNewWords, IsPage}
+use Rattle.vm_trace.specs.PageBlocks.{HasNewWords, IsPage}
 use Rattle.vm_trace.proofs.BlockLemmas.{block_inside}
 use Rattle.air_core.specs.Orders.{Member}
 use Rattle.page_tree.specs.MapBlocks.{AreBlocksOf, map_block}
@@ -24,7 +22,7 @@ use Rattle.page_tree.specs.Tree.{Leaves}
 use Rattle.page_tree.proofs.BlockLemmas.{pages_leave_new}
 use Rattle.page_tree.proofs.PartLemmas.{labelled_bytes-place, labels_of-place, length-labels_of}
 use Rattle.page_tree.proofs.TreeLemmas.{has-true, has-from, replaced-at, replaced-other}
-use Rattle.vm_executor.specs.Pages.{Times, AreTouched, Shows}
+use Rattle.vm_executor.specs.Pages.{Times, AreTouched}
 use Rattle.acceptance.specs.Holds.{IsMachinePage}
 use Rattle.acceptance.proofs.Start.{four_more, public_block}
 use Rattle.acceptance.proofs.Segments.{are_pages}

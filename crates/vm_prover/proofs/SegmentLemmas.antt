@@ -1,7 +1,6 @@
 -- What stands before the first segment, and after one more.
-use Rattle.std.proofs.Common.{◌≡◌, ℕ, suc, ◌+◌, ◌*◌, ◌^◌, ◌<◌, ◌≤◌, Bool, true, false, List, [], ◌∷◌, ◌++◌, length, map, inl, refl, sym, ap, ◌∙◌, subst, arith}
+use Rattle.std.proofs.Common.{ℕ, ◌<◌, Bool, false, List, [], ◌∷◌, ◌++◌, length, inl, refl, sym, ap, ◌∙◌, subst, arith}
 use Rattle.std.specs.Prelude.{sum}
-use Rattle.std.specs.List.{AllByRecursion}
 use Rattle.elf_image.specs.Loaded.{Loaded}
 use Rattle.vm_field.specs.Field.{modulus}
 use Rattle.vm_isa.specs.declared.record.StepRecord.{StepRecord}
@@ -15,7 +14,6 @@ use Rattle.air_core.specs.ListLemmas.{all_append}
 use Rattle.air_core.specs.System.{System}
 use Rattle.exec_path.specs.Path.{Point}
 use Rattle.page_tree.specs.MapBlocks.{AreBlocksOf}
-use Rattle.page_tree.specs.Opening.{siblings_of}
 use Rattle.page_tree.specs.Parts.{labels_of, with_pages}
 use Rattle.page_tree.specs.Start.{start_map}
 use Rattle.page_tree.specs.Tree.{Leaves, root}
@@ -27,10 +25,9 @@ use Rattle.vm_executor.specs.Machine.{Machine}
 use Rattle.vm_executor.specs.Pages.{AreTouched}
 use Rattle.vm_executor.specs.Runs.{Ran, starting}
 use Rattle.vm_executor.proofs.SinceLemmas.{since_records, touched_fit}
-use Rattle.acceptance.specs.Accepts.{last_pc, last_root, shape_of}
-use Rattle.acceptance.specs.Events.{valid_rows}
+use Rattle.acceptance.specs.Accepts.{shape_of}
 use Rattle.acceptance.specs.Holds.{SegmentHolds}
-use Rattle.acceptance.specs.Spelled.{HintEvent, hints_before}
+use Rattle.acceptance.specs.Spelled.{hints_before}
 use Rattle.acceptance.proofs.CanonicalTrees.{siblings_canonical}
 use Rattle.acceptance.proofs.Start.{start_blocks_are}
 use Rattle.acceptance.proofs.Whole.{before_joined}

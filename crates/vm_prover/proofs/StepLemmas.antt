@@ -1,14 +1,13 @@
 -- The segment under way, at its begin and with a record more.
-use Rattle.std.proofs.Common.{◌≡◌, ◌≢◌, ℕ, zero, suc, ◌+◌, ◌*◌, ◌^◌, ◌<◌, ◌≤◌, Bool, true, false, List, [], ◌∷◌, ◌++◌, length, length-append, inl, inr, refl, sym, ap, ◌∙◌, subst, arith, lit≤, pow_mono, Some}
-use Rattle.std.specs.Prelude.{map, sum, if◌then◌else◌, All}
-use Rattle.std.specs.List.{AllByRecursion}
+use Rattle.std.proofs.Common.{◌≡◌, ◌≢◌, ℕ, zero, suc, ◌+◌, ◌^◌, ◌≤◌, Bool, true, false, List, [], ◌∷◌, ◌++◌, length, length-append, inl, inr, refl, sym, ap, ◌∙◌, subst, arith, lit≤, pow_mono}
+use Rattle.std.specs.Prelude.{sum, if◌then◌else◌}
 use Rattle.std.proofs.lemmas.Bool.{both_ways}
 use Rattle.std.proofs.lemmas.Bool.Decides.{nat_tests}
 use Rattle.std.proofs.lemmas.List.Elements.{All-contains}
 use Rattle.vm_isa.specs.declared.instr.VmInstr.{VmInstr}
 use Rattle.vm_isa.specs.declared.record.StepRecord.{StepRecord}
 use Rattle.vm_isa.specs.Instr.{InRange}
-use Rattle.vm_isa.specs.Means.{Fillable, Meaning, is_refused, means_of}
+use Rattle.vm_isa.specs.Means.{Fillable, is_refused}
 use Rattle.vm_isa.specs.Opcodes.{has_meaning, is_opcode}
 use Rattle.vm_isa.specs.Slots.{slots_of}
 use Rattle.vm_isa.proofs.NextLaws.{meant}
@@ -21,7 +20,6 @@ use Rattle.vm_executor.specs.Machine.{Machine, begun, Goes}
 use Rattle.vm_executor.specs.Runs.{Ran, StaysOrBegins, starting}
 use Rattle.vm_executor.proofs.SinceLemmas.{since_begun, since_more, since_records, step_fillable}
 use Rattle.vm_prover.specs.Laws.{AllOpcodesOwnRows, SegmentsComeUnderWay, RecordsGoOn, RecordsCanBeFilled}
-use Rattle.vm_prover.specs.Progress.{CanProve, UnderWay}
 use Rattle.vm_prover.proofs.HintLemmas.{hints_more, bytes_left}
 
 -- a segment may begin with each machine of a run

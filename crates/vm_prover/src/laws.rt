@@ -1,8 +1,10 @@
-//! What whole segments come to. Each function does nothing: its contract is the law.
+//! What whole segments come to. Each function does nothing when it runs: its contract is the law.
 ghost use Rattle.vm_prover.specs.Laws.{AllOpcodesOwnRows, NoSegmentsStand, SegmentsComeUnderWay, RecordsGoOn, RecordsCanBeFilled, SegmentsGoOn, PutsGoOn, EachVersionTakes16384, EndedSegmentsProve, EndingRunsGoOn};
 
 use air_core::Extension;
-use vm_filler::laws::{filled_segments_are_of_records, filled_segments_hold};
+use vm_filler::laws::{
+    filled_segments_are_canonical, filled_segments_are_of_records, filled_segments_hold,
+};
 
 /// An extension of all opcodes of steps owns the rows of every program.
 pub fn all_opcodes_own_rows<E: Extension>()
@@ -27,6 +29,7 @@ pub fn segments_go_on<E: Extension>()
     ensures { (ext : E) → SegmentsGoOn (E.system ext) }
 {
     filled_segments_hold::<E>();
+    filled_segments_are_canonical::<E>();
     filled_segments_are_of_records::<E>();
 }
 
