@@ -75,10 +75,10 @@ module _ (x : System) (version : ℕ) (image : Loaded) (hints : Hints) (segments
       record { row = end.row; stands = end.stands; here = end.here ∙ sym same.1.pc ∙ sym p.pc_is; is_end = end.is_end; states = end.states }
 
   shown : leaves PUBLIC_LABEL ≡ public_bytes
-  shown = public_leaf leaves m.now ending.last p.blocks p.whole same.0 (vm_state m) refl same.1 ∙ ending.shown
+  shown = public_leaf leaves m ending.last p.blocks p.whole same.0 same.1 ∙ ending.shown
 
   shown_bytes : IsBytes (leaves PUBLIC_LABEL)
-  shown_bytes = subst IsBytes (sym (public_leaf leaves m.now ending.last p.blocks p.whole same.0 (vm_state m) refl same.1)) same.0.public_bytes
+  shown_bytes = subst IsBytes (sym (public_leaf leaves m ending.last p.blocks p.whole same.0 same.1)) same.0.public_bytes
 
   is_public : IsPublic (leaves PUBLIC_LABEL) (path_of leaves PUBLIC_LABEL) (last_root (root (start_map image)) segments)
   is_public = record {

@@ -13,6 +13,7 @@ use Rattle.vm_isa.specs.Words.{IsBytes}
 use Rattle.vm_isa.proofs.MeansLaws.{whole}
 use Rattle.vm_isa.proofs.NextLaws.{meant}
 use Rattle.vm_transpile.proofs.Kept.{all_take, all_drop}
+use Rattle.vm_executor.proofs.SinceLemmas.{placed_same}
 use Rattle.vm_executor.specs.Machine.{Machine, Goes}
 use Rattle.acceptance.specs.Spelled.{HintEvent, Word, hints_before, low_byte}
 use Rattle.acceptance.proofs.Hints.{hint_places}
@@ -25,9 +26,6 @@ low_same [] h = refl
 low_same (x ∷ xs) h = let first : x % 256 ≡ x = omega (arith, h.0) in rw (first, low_same xs h.1) refl
 
 -- ---- the word of a HINT
-
-placed_same : (x y : Placed) (xs ys : List Placed) → x ∷ xs ≡ y ∷ ys → (x ≡ y) × (xs ≡ ys)
-placed_same x y xs ys h = (cc, cc)
 
 -- accesses at their places have the words of their meaning
 new_words : (time : ℕ) (xs : List TimedAccess) (ys : List Accessed) → map placed xs ≡ map (placed_at time) ys → map (λ a. a.access.new) xs ≡ map (λ a. a.new) ys

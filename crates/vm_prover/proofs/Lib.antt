@@ -1,6 +1,5 @@
 pub mod HintLemmas
 pub mod StepLemmas
-pub mod EntryLemmas
 pub mod LeafLemmas
 pub mod ChainLemmas
 pub mod SegmentLemmas

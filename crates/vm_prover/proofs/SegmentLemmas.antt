@@ -20,6 +20,7 @@ use Rattle.page_tree.specs.Tree.{Leaves, root}
 use Rattle.page_tree.proofs.PageLemmas.{own_roots}
 use Rattle.page_tree.proofs.StartLemmas.{length-start_map}
 use Rattle.vm_transpile.specs.Program.{program_of}
+use Rattle.vm_transpile.proofs.Ranges.{entry_low}
 use Rattle.vm_transpile.proofs.Texts.{program_rises}
 use Rattle.vm_executor.specs.Machine.{Machine}
 use Rattle.vm_executor.specs.Pages.{AreTouched}
@@ -37,7 +38,6 @@ use Rattle.vm_filler.specs.Segment.{SegmentFilled, IsFilledSegment}
 use Rattle.vm_prover.specs.Laws.{NoSegmentsStand, SegmentsGoOn}
 use Rattle.vm_prover.specs.Progress.{CanProve, UnderWay, Progress, FitsVersion, segment_from}
 use Rattle.vm_prover.proofs.ChainLemmas.{linked_more, last_pc_more, last_root_more, last_pc_low, ends_more, rows_more, sum_more, spell_more}
-use Rattle.vm_prover.proofs.EntryLemmas.{entry_low}
 use Rattle.vm_prover.proofs.LeafLemmas.{rising, machine, leaves_match, leaves_after, leaves_long}
 
 pub no_segments : (x : System) → NoSegmentsStand x
