@@ -1,21 +1,19 @@
 -- The end of a run, and the file of its segments.
-use Rattle.std.proofs.Common.{◌≡◌, ℕ, zero, suc, ◌+◌, ◌*◌, ◌^◌, ◌<◌, ◌≤◌, Bool, true, false, List, [], ◌∷◌, ◌++◌, length, map, Some, inl, inr, refl, sym, ap, ◌∙◌, subst, arith, ⊎_elim}
+use Rattle.std.proofs.Common.{◌≡◌, ℕ, zero, suc, ◌<◌, ◌≤◌, true, List, length, refl, sym, ap, ◌∙◌, subst, arith, ⊎_elim}
 use Rattle.std.specs.Prelude.{sum}
-use Rattle.std.specs.List.{AllByRecursion}
 use Rattle.std.proofs.lemmas.Bool.{cases_lt}
 use Rattle.std.proofs.lemmas.List.{length-map}
-use Rattle.elf_image.specs.Image.{IsOfAFile}
 use Rattle.elf_image.specs.Loaded.{Loaded}
 use Rattle.rv_run.specs.Machine.{Machine as Manual}
 use Rattle.rv_run.specs.Run.{Goes, Ends}
-use Rattle.rv_run.specs.Step.{goes, ends, step_of}
+use Rattle.rv_run.specs.Step.{goes, step_of}
 use Rattle.vm_isa.specs.Blocks.{Terminates}
 use Rattle.vm_isa.specs.Hints.{Hints}
 use Rattle.vm_isa.specs.Words.{IsBytes}
 use Rattle.vm_trace.specs.declared.page.TheConstants.{PUBLIC_LABEL}
 use Rattle.vm_trace.specs.File.{Segment}
 use Rattle.air_core.specs.System.{System}
-use Rattle.page_tree.specs.Path.{path_of, climb}
+use Rattle.page_tree.specs.Path.{path_of}
 use Rattle.page_tree.specs.Start.{start_map}
 use Rattle.page_tree.specs.Tree.{Leaves, root}
 use Rattle.page_tree.proofs.PathLemmas.{climb-path_of}
@@ -23,19 +21,15 @@ use Rattle.vm_transpile.specs.Program.{program_of}
 use Rattle.vm_transpile.specs.Refines.{HasText}
 use Rattle.vm_transpile.specs.Same.{IsMachine, Same}
 use Rattle.vm_transpile.proofs.Refinement.{ends_by_row, went_text, ended_text}
-use Rattle.vm_executor.specs.declared.machine.Machined.{Machined}
-use Rattle.vm_executor.specs.declared.machine.Machined.TheVariants.{Ended}
 use Rattle.vm_executor.specs.Machine.{Machine, vm_state}
-use Rattle.vm_executor.specs.Runs.{IsWent, Ran, starting}
-use Rattle.vm_executor.specs.State.{IsStep}
 use Rattle.vm_executor.proofs.RunLemmas.{runs_are_the_manuals, runs_go_along}
-use Rattle.acceptance.specs.Accepts.{Accepts, ClaimHolds, last_pc, last_root, shape_of, steps_in, IsPublic}
+use Rattle.acceptance.specs.Accepts.{Accepts, last_pc, last_root, IsPublic}
 use Rattle.acceptance.specs.Events.{valid_rows}
 use Rattle.acceptance.specs.Spelled.{hints_before}
 use Rattle.acceptance.proofs.CanonicalTrees.{path_canonical}
 use Rattle.acceptance.proofs.Example.{end_in_range, path_levels, path_digests_of}
 use Rattle.vm_prover.specs.Laws.{EndedSegmentsProve, EndingRunsGoOn}
-use Rattle.vm_prover.specs.Progress.{CanProve, Progress, StatesRun, file_of}
+use Rattle.vm_prover.specs.Progress.{CanProve, Progress, EndsAccepted, file_of}
 use Rattle.vm_prover.proofs.ChainLemmas.{steps_are_sum}
 use Rattle.vm_prover.proofs.LeafLemmas.{public_leaf}
 
@@ -81,10 +75,10 @@ module _ (x : System) (version : ℕ) (image : Loaded) (hints : Hints) (segments
       record { row = end.row; stands = end.stands; here = end.here ∙ sym same.1.pc ∙ sym p.pc_is; is_end = end.is_end; states = end.states }
 
   shown : leaves PUBLIC_LABEL ≡ public_bytes
-  shown = public_leaf leaves m.now ending.last p.blocks p.whole same.0 (vm_state m) refl same.1 ∙ ending.shown
+  shown = public_leaf leaves m ending.last p.blocks p.whole same.0 same.1 ∙ ending.shown
 
   shown_bytes : IsBytes (leaves PUBLIC_LABEL)
-  shown_bytes = subst IsBytes (sym (public_leaf leaves m.now ending.last p.blocks p.whole same.0 (vm_state m) refl same.1)) same.0.public_bytes
+  shown_bytes = subst IsBytes (sym (public_leaf leaves m ending.last p.blocks p.whole same.0 same.1)) same.0.public_bytes
 
   is_public : IsPublic (leaves PUBLIC_LABEL) (path_of leaves PUBLIC_LABEL) (last_root (root (start_map image)) segments)
   is_public = record {
@@ -119,8 +113,8 @@ module _ (x : System) (version : ℕ) (image : Loaded) (hints : Hints) (segments
         };
       }
 
-  pub states_run : StatesRun x image hints lengths code public_bytes (file_of version segments code leaves)
-  states_run = record {
+  pub ends_accepted : EndsAccepted x image hints lengths code public_bytes (file_of version segments code leaves)
+  ends_accepted = record {
     accepts = accepted;
     code_is = refl;
     public_are = shown;
@@ -133,4 +127,4 @@ module _ (x : System) (version : ℕ) (image : Loaded) (hints : Hints) (segments
 
 pub ended_segments_prove : (x : System) → EndedSegmentsProve x
 ended_segments_prove x version image hints segments lengths m leaves code public_bytes can p some few ending =
-    states_run x version image hints segments lengths m leaves code public_bytes can p some few ending
+    ends_accepted x version image hints segments lengths m leaves code public_bytes can p some few ending

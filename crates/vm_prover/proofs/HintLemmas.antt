@@ -1,28 +1,24 @@
 -- The hints that records take.
-use Rattle.std.proofs.Common.{◌≡◌, ℕ, ◌+◌, ◌%◌, ◌<◌, ◌≤◌, Bool, true, false, nat_eq, List, [], ◌∷◌, ◌++◌, length, map, take, drop, append_assoc, append-nil, Some, refl, sym, ap, ◌∙◌, subst, arith}
-use Rattle.std.specs.Prelude.{flat_map, slice_index_or, if◌then◌else◌}
-use Rattle.std.specs.List.{AllByRecursion}
+use Rattle.std.proofs.Common.{◌≡◌, ℕ, ◌%◌, Bool, true, false, nat_eq, List, [], ◌∷◌, ◌++◌, length, map, take, drop, append-nil, refl, sym, ap, ◌∙◌, subst, arith}
+use Rattle.std.specs.Prelude.{slice_index_or, if◌then◌else◌}
 use Rattle.std.proofs.lemmas.Bool.Decides.{nat_tests}
 use Rattle.std.proofs.lemmas.Grind.{flat_map-append}
 use Rattle.std.proofs.lemmas.List.{take-append-drop}
 use Rattle.vm_isa.specs.declared.access.TimedAccess.{TimedAccess}
 use Rattle.vm_isa.specs.declared.instr.VmInstr.{VmInstr}
 use Rattle.vm_isa.specs.declared.record.StepRecord.{StepRecord}
-use Rattle.vm_isa.specs.Hints.{Hints, AreEnough, hints_after, hints_used, next_hint}
-use Rattle.vm_isa.specs.Means.{Accessed, Placed, Meaning, means_of, placed, placed_at, places_by, places_of, accessed_by, new_at, word_at}
+use Rattle.vm_isa.specs.Hints.{hints_used, next_hint}
+use Rattle.vm_isa.specs.Means.{Accessed, Placed, Meaning, placed, placed_at, places_by, accessed_by, new_at, word_at}
 use Rattle.vm_isa.specs.Words.{IsBytes}
 use Rattle.vm_isa.proofs.MeansLaws.{whole}
 use Rattle.vm_isa.proofs.NextLaws.{meant}
 use Rattle.vm_transpile.proofs.Kept.{all_take, all_drop}
+use Rattle.vm_executor.proofs.SinceLemmas.{placed_same}
 use Rattle.vm_executor.specs.Machine.{Machine, Goes}
-use Rattle.acceptance.specs.Spelled.{HintEvent, Word, NextFrame, hints_before, low_byte}
+use Rattle.acceptance.specs.Spelled.{HintEvent, Word, hints_before, low_byte}
+use Rattle.acceptance.proofs.Hints.{hint_places}
+use Rattle.acceptance.proofs.Whole.{before_joined}
 use Rattle.vm_filler.specs.Hints.{word_left, hint_of, hints_of}
-
--- hints that are joined
-pub before_joined : (a b : List HintEvent) (rest : List ℕ) → hints_before (a ++ b) rest ≡ hints_before a (hints_before b rest)
-before_joined [] b rest = refl
-before_joined (Word word ∷ a) b rest = ap (λ (bytes : List ℕ). map low_byte word ++ bytes) (before_joined a b rest)
-before_joined (NextFrame ∷ a) b rest = before_joined a b rest
 
 -- the low bytes of bytes
 low_same : (xs : List ℕ) → IsBytes xs → map low_byte xs ≡ xs
@@ -30,9 +26,6 @@ low_same [] h = refl
 low_same (x ∷ xs) h = let first : x % 256 ≡ x = omega (arith, h.0) in rw (first, low_same xs h.1) refl
 
 -- ---- the word of a HINT
-
-placed_same : (x y : Placed) (xs ys : List Placed) → x ∷ xs ≡ y ∷ ys → (x ≡ y) × (xs ≡ ys)
-placed_same x y xs ys h = (cc, cc)
 
 -- accesses at their places have the words of their meaning
 new_words : (time : ℕ) (xs : List TimedAccess) (ys : List Accessed) → map placed xs ≡ map (placed_at time) ys → map (λ a. a.access.new) xs ≡ map (λ a. a.new) ys
@@ -43,10 +36,6 @@ new_words time (a ∷ xs) (b ∷ ys) same =
     let both = placed_same (placed a) (placed_at time b) (map placed xs) (map (placed_at time) ys) same in
     let first : a.access.new ≡ b.new = ap (λ (p : Placed). p.new) both.0 in
     rw first (ap (λ (words : List (List ℕ)). b.new ∷ words) (new_words time xs ys both.1))
-
-hint_places : (i : VmInstr) (b c : ℕ) → i.op ≡ 37 → length (places_by i b c) ≡ 2
-unfolding places_by
-hint_places i b c h = rw h refl
 
 hint_news : (i : VmInstr) (x y : List ℕ) (given : List ℕ) → i.op ≡ 37 → map (λ a. a.new) ((whole i (x ∷ y ∷ []) given).accesses) ≡ x ∷ given ∷ []
 unfolding places_by accessed_by new_at

@@ -1,31 +1,29 @@
 -- The leaves of a tree beside the machine's memory, before and after a segment.
-use Rattle.std.proofs.Common.{◌≡◌, ℕ, zero, suc, ◌+◌, ◌*◌, ◌/◌, ◌%◌, ◌<◌, ◌≤◌, true, false, eqb, List, [], ◌∷◌, length, map, take, drop, get_or, inl, inr, refl, sym, ap, ◌∙◌, subst, arith, ⊎_elim}
-use Rattle.std.specs.Prelude.{All, slice_index, Contains}
+use Rattle.std.proofs.Common.{◌≡◌, ℕ, zero, suc, ◌+◌, ◌*◌, ◌/◌, ◌%◌, ◌<◌, true, false, eqb, List, [], ◌∷◌, length, take, get_or, sym, ap, ◌∙◌, subst, arith, ⊎_elim}
+use Rattle.std.specs.Prelude.{All, slice_index}
 use Rattle.std.specs.List.{AllByRecursion, list_any}
 use Rattle.std.specs.List.Sorted.{IsStrictlyIncreasing}
 use Rattle.std.proofs.lemmas.Bool.{cases_Bool, both_ways}
-use Rattle.std.proofs.lemmas.Bool.Decides.{nat_tests}
 use Rattle.std.proofs.lemmas.Grind.{same_number_lists}
-use Rattle.std.proofs.lemmas.List.{get_or_default}
 use Rattle.std.proofs.lemmas.List.Elements.{All-contains, All-from_recursion, recursion_from_All, Contains-get_or}
-use native.Mathlib.Numerals.{unary_clauses}
 use Rattle.rv_run.specs.Machine.{Machine as Manual}
-use Rattle.vm_isa.specs.Blocks.{Blocks, VmState, is_block}
+use Rattle.vm_isa.specs.Blocks.{Blocks}
 use Rattle.vm_transpile.specs.Same.{IsMachine, Same}
-use Rattle.vm_trace.specs.declared.page.TheConstants.{SPACE_PAGES, PUBLIC_LABEL}
+use Rattle.vm_trace.specs.declared.page.TheConstants.{PUBLIC_LABEL}
 use Rattle.vm_trace.specs.declared.page.Touched.{Touched}
 use Rattle.vm_trace.specs.Pages.{page_space, block_pointer, block_word, IsMachineLabel, IsWhole}
-use Rattle.vm_trace.specs.PageBlocks.{ArePages, HasNewWords, IsPage}
+use Rattle.vm_trace.specs.PageBlocks.{HasNewWords, IsPage}
 use Rattle.vm_trace.proofs.BlockLemmas.{block_inside}
-use Rattle.air_core.specs.Orders.{Member}
-use Rattle.page_tree.specs.MapBlocks.{AreBlocksOf, map_block}
-use Rattle.page_tree.specs.Parts.{label_of, labels_of, labelled_bytes, new_bytes_at, with_pages}
+use Rattle.offline_memory.proofs.Members.{member_from_contains}
+use Rattle.page_tree.specs.MapBlocks.{AreBlocksOf}
+use Rattle.page_tree.specs.Parts.{labels_of, new_bytes_at, with_pages}
 use Rattle.page_tree.specs.Tree.{Leaves}
-use Rattle.page_tree.proofs.BlockLemmas.{pages_leave_new}
-use Rattle.page_tree.proofs.PartLemmas.{labelled_bytes-place, labels_of-place, length-labels_of}
+use Rattle.page_tree.proofs.BlockLemmas.{block_of_label, page_at, pages_leave_new}
 use Rattle.page_tree.proofs.TreeLemmas.{has-true, has-from, replaced-at, replaced-other}
-use Rattle.vm_executor.specs.Pages.{Times, AreTouched, Shows}
+use Rattle.vm_executor.specs.Machine.{Machine, vm_state}
+use Rattle.vm_executor.specs.Pages.{Times, AreTouched}
 use Rattle.acceptance.specs.Holds.{IsMachinePage}
+use Rattle.acceptance.proofs.Start.{four_more, public_block}
 use Rattle.acceptance.proofs.Segments.{are_pages}
 
 -- ---- bytes by their blocks
@@ -48,32 +46,9 @@ same_blocks xs ys long also same =
 
 -- ---- the pages of a segment
 
-block_of_label : (m : Leaves) (label block : ℕ) → block < 16 → map_block m (page_space label) (block_pointer label block) ≡ block_word (m label) block
-block_of_label m label block small =
-    let at : SPACE_PAGES * page_space label + block_pointer label block / 64 ≡ label = omega arith in
-    let number : block_pointer label block % 64 / 4 ≡ block = omega arith in
-    ap (λ (n : ℕ). block_word (m n) (block_pointer label block % 64 / 4)) at ∙ ap (block_word (m label)) number
-
-member_at : (xs : List Touched) (k : ℕ) (d : Touched) → k < length xs → Member (get_or xs k d) xs
-member_at [] k d h = absurd (omega arith)
-member_at (x ∷ xs) zero d h = inl refl
-member_at (x ∷ xs) (suc k) d h = inr (member_at xs k d (omega arith))
-
-member_of : (page : Touched) (xs : List Touched) → Contains xs page → Member page xs
-member_of page xs (k, low, is) = subst (λ (p : Touched). Member p xs) is (member_at xs k page low)
-
 machine_pages : (pages : List Touched) → AllByRecursion (λ page. IsMachineLabel page.label) pages → AllByRecursion IsWhole pages → AllByRecursion IsMachinePage pages
 machine_pages [] machine whole = tt
 machine_pages (page ∷ pages) machine whole = (record { label = machine.0; whole = whole.0 }, machine_pages pages machine.1 whole.1)
-
-new_long : (pages : List Touched) (label : ℕ) → IsStrictlyIncreasing (labels_of pages) → All IsWhole pages → Contains (labels_of pages) label → length (new_bytes_at pages label) ≡ 64
-unfolding new_bytes_at labels_of
-new_long pages label up whole (k, low, is) =
-    let d : Touched = record { label = 0; old = []; new = []; times = [] } in
-    let place : k < length pages = omega (arith, low, length-labels_of pages) in
-    let at : (get_or pages k d).label ≡ label = sym (labels_of-place pages k d place) ∙ get_or_default (labels_of pages) k 0 label low ∙ is in
-    let page : IsWhole (get_or pages k d) = whole k d place in
-    subst (λ (n : ℕ). length (labelled_bytes label_of (λ p. p.new) [] pages n) ≡ 64) at (ap length (labelled_bytes-place label_of (λ p. p.new) [] pages k d up place) ∙ page.new.size)
 
 module _ (leaves : Leaves) (start now : Blocks) (times : Times) (pages : List Touched) (are : AreBlocksOf leaves start) (long : (label : ℕ) → length (leaves label) ≡ 64) (touched : AreTouched start now times pages) where
   pub rising : IsStrictlyIncreasing (labels_of pages)
@@ -87,17 +62,17 @@ module _ (leaves : Leaves) (start now : Blocks) (times : Times) (pages : List To
   pub leaves_match : All (λ (page : Touched). page.old ≡ leaves page.label) pages
   leaves_match = λ k d h.
       let page = get_or pages k d in
-      let stands = member_at pages k d h in
+      let stands = Contains-get_or pages k d h in
       let whole : IsWhole page = touched.whole k d h in
-      let inside = All-contains (λ (p : Touched). IsPage p.label) pages page (All-from_recursion (λ (p : Touched). IsPage p.label) pages (are_pages pages machine)) (Contains-get_or pages k d h) in
+      let inside = All-contains (λ (p : Touched). IsPage p.label) pages page (All-from_recursion (λ (p : Touched). IsPage p.label) pages (are_pages pages machine)) stands in
       same_blocks page.old (leaves page.label) whole.old.size (long page.label) (λ block small.
-      touched.shows.old page block stands small
+      touched.shows.old page block (member_from_contains page pages stands) small
       ∙ are.each (page_space page.label) (block_pointer page.label block) (block_inside page.label block inside small)
       ∙ block_of_label leaves page.label block small)
 
   new_words : HasNewWords pages start now
   new_words = record {
-    has = λ page block stands small. sym (touched.shows.new page block (member_of page pages stands) small);
+    has = λ page block stands small. sym (touched.shows.new page block (member_from_contains page pages stands) small);
     other = λ space pointer outside. ⊎_elim (λ inside. absurd (outside inside)) (λ idle. idle.0) (touched.others space pointer);
   }
 
@@ -111,33 +86,19 @@ module _ (leaves : Leaves) (start now : Blocks) (times : Times) (pages : List To
       ⊎_elim
       (λ (some : list_any (eqb label) (labels_of pages) ≡ true).
       let has = has-true (labels_of pages) label some in
-      ap length (replaced-at leaves (labels_of pages) (new_bytes_at pages) label has) ∙ new_long pages label rising touched.whole has)
+      let found = page_at pages label rising has in
+      let whole : IsWhole found.page = All-contains IsWhole pages found.page touched.whole found.stands in
+      ap length (replaced-at leaves (labels_of pages) (new_bytes_at pages) label has ∙ found.bytes) ∙ whole.new.size)
       (λ (none : list_any (eqb label) (labels_of pages) ≡ false).
       ap length (replaced-other leaves (labels_of pages) (new_bytes_at pages) label (λ has. both_ways (list_any (eqb label) (labels_of pages)) none (has-from (labels_of pages) label has))) ∙ long label)
       (cases_Bool (list_any (eqb label) (labels_of pages)))
 
 -- ---- public bytes
 
-four_places : (xs : List ℕ) (j : ℕ) → 4 * j + 4 ≤ length xs → take 4 (drop (4 * j) xs) ≡ block_word xs j
-four_places xs j h = four_from xs (4 * j) h
-  where
-    four_from : (ys : List ℕ) (k : ℕ) → k + 4 ≤ length ys → take 4 (drop k ys) ≡ slice_index ys k ∷ slice_index ys (k + 1) ∷ slice_index ys (k + 2) ∷ slice_index ys (k + 3) ∷ []
-    four_from [] k low = absurd (omega (arith, low))
-    four_from (a ∷ []) zero low = absurd (omega (arith, low))
-    four_from (a ∷ b ∷ []) zero low = absurd (omega (arith, low))
-    four_from (a ∷ b ∷ c ∷ []) zero low = absurd (omega (arith, low))
-    four_from (a ∷ b ∷ c ∷ d ∷ ys) zero low = refl
-    four_from (y ∷ ys) (suc k) low = let rest = four_from ys k (omega (arith, low)) in simp unary_clauses (simp unary_clauses at rest)
-
 -- the leaf of public bytes is those of the manual's machine
-pub public_leaf : (leaves : Leaves) (now : Blocks) (manual : Manual) → AreBlocksOf leaves now → ((label : ℕ) → length (leaves label) ≡ 64) → IsMachine manual → (s : VmState) → s.blocks ≡ now → Same manual s
-    → leaves PUBLIC_LABEL ≡ manual.public_bytes
-public_leaf leaves now manual are long is s blocks same =
+pub public_leaf : (leaves : Leaves) (m : Machine) (manual : Manual) → AreBlocksOf leaves m.now → ((label : ℕ) → length (leaves label) ≡ 64) → IsMachine manual → Same manual (vm_state m) → leaves PUBLIC_LABEL ≡ manual.public_bytes
+public_leaf leaves m manual are long is same =
     same_blocks (leaves PUBLIC_LABEL) manual.public_bytes (long PUBLIC_LABEL) is.public_count (λ j small.
-    let on : is_block 3 (4 * j) ≡ true = grind (arith, nat_tests) in
-    let label : SPACE_PAGES * 3 + 4 * j / 64 ≡ PUBLIC_LABEL = omega (arith, small) in
-    let block : 4 * j % 64 / 4 ≡ j = omega (arith, small) in
-    sym (are.each 3 (4 * j) on ∙ ap (λ (n : ℕ). block_word (leaves n) (4 * j % 64 / 4)) label ∙ ap (block_word (leaves PUBLIC_LABEL)) block)
-    ∙ sym (ap (λ (b : Blocks). b 3 (4 * j)) blocks)
+    sym (public_block leaves m.now are j small)
     ∙ same.public_bytes j small
-    ∙ four_places manual.public_bytes j (omega (arith, small, is.public_count)))
+    ∙ sym (ap (take 4) (four_more manual.public_bytes (4 * j) (omega (arith, small, is.public_count)))))

@@ -3,7 +3,6 @@ pub mod Lengths
 pub mod OneWay
 pub mod HintLemmas
 pub mod StepLemmas
-pub mod EntryLemmas
 pub mod LeafLemmas
 pub mod ChainLemmas
 pub mod SegmentLemmas

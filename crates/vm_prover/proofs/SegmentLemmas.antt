@@ -1,7 +1,6 @@
 -- What stands before the first segment, and after one more.
-use Rattle.std.proofs.Common.{◌≡◌, ℕ, suc, ◌+◌, ◌*◌, ◌^◌, ◌<◌, ◌≤◌, Bool, true, false, List, [], ◌∷◌, ◌++◌, length, map, inl, refl, sym, ap, ◌∙◌, subst, arith}
+use Rattle.std.proofs.Common.{ℕ, ◌<◌, Bool, false, List, [], ◌∷◌, ◌++◌, length, inl, refl, sym, ap, ◌∙◌, subst, arith}
 use Rattle.std.specs.Prelude.{sum}
-use Rattle.std.specs.List.{AllByRecursion}
 use Rattle.elf_image.specs.Loaded.{Loaded}
 use Rattle.vm_field.specs.Field.{modulus}
 use Rattle.vm_isa.specs.declared.record.StepRecord.{StepRecord}
@@ -15,32 +14,30 @@ use Rattle.air_core.specs.ListLemmas.{all_append}
 use Rattle.air_core.specs.System.{System}
 use Rattle.exec_path.specs.Path.{Point}
 use Rattle.page_tree.specs.MapBlocks.{AreBlocksOf}
-use Rattle.page_tree.specs.Opening.{siblings_of}
 use Rattle.page_tree.specs.Parts.{labels_of, with_pages}
 use Rattle.page_tree.specs.Start.{start_map}
 use Rattle.page_tree.specs.Tree.{Leaves, root}
 use Rattle.page_tree.proofs.PageLemmas.{own_roots}
 use Rattle.page_tree.proofs.StartLemmas.{length-start_map}
 use Rattle.vm_transpile.specs.Program.{program_of}
+use Rattle.vm_transpile.proofs.Ranges.{entry_low}
 use Rattle.vm_transpile.proofs.Texts.{program_rises}
 use Rattle.vm_executor.specs.Machine.{Machine}
 use Rattle.vm_executor.specs.Pages.{AreTouched}
 use Rattle.vm_executor.specs.Runs.{Ran, starting}
 use Rattle.vm_executor.proofs.SinceLemmas.{since_records, touched_fit}
-use Rattle.acceptance.specs.Accepts.{last_pc, last_root, shape_of}
-use Rattle.acceptance.specs.Events.{valid_rows}
+use Rattle.acceptance.specs.Accepts.{shape_of}
 use Rattle.acceptance.specs.Holds.{SegmentHolds}
-use Rattle.acceptance.specs.Spelled.{HintEvent, hints_before}
+use Rattle.acceptance.specs.Spelled.{hints_before}
 use Rattle.acceptance.proofs.CanonicalTrees.{siblings_canonical}
 use Rattle.acceptance.proofs.Start.{start_blocks_are}
+use Rattle.acceptance.proofs.Whole.{before_joined}
 use Rattle.vm_filler.specs.Hints.{hints_of}
 use Rattle.vm_filler.specs.Laws.{FilledSegmentsHold, FilledSegmentsAreCanonical, FilledSegmentsCountRecords, FilledSegmentsSpell}
 use Rattle.vm_filler.specs.Segment.{SegmentFilled, IsFilledSegment}
 use Rattle.vm_prover.specs.Laws.{NoSegmentsStand, SegmentsGoOn}
 use Rattle.vm_prover.specs.Progress.{CanProve, UnderWay, Progress, FitsVersion, segment_from}
 use Rattle.vm_prover.proofs.ChainLemmas.{linked_more, last_pc_more, last_root_more, last_pc_low, ends_more, rows_more, sum_more, spell_more}
-use Rattle.vm_prover.proofs.EntryLemmas.{entry_low}
-use Rattle.vm_prover.proofs.HintLemmas.{before_joined}
 use Rattle.vm_prover.proofs.LeafLemmas.{rising, machine, leaves_match, leaves_after, leaves_long}
 
 pub no_segments : (x : System) → NoSegmentsStand x

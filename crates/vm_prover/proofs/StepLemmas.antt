@@ -1,17 +1,14 @@
 -- The segment under way, at its begin and with a record more.
-use Rattle.std.proofs.Common.{◌≡◌, ◌≢◌, ℕ, zero, suc, ◌+◌, ◌*◌, ◌^◌, ◌<◌, ◌≤◌, Bool, true, false, List, [], ◌∷◌, ◌++◌, length, length-append, inl, inr, refl, sym, ap, ◌∙◌, subst, arith, lit≤, pow_mono, Some}
-use Rattle.std.specs.Prelude.{map, sum, if◌then◌else◌, All}
-use Rattle.std.specs.List.{AllByRecursion}
-use Rattle.std.proofs.lemmas.Bool.{both_ways}
+use Rattle.std.proofs.Common.{◌≡◌, ◌≢◌, ℕ, zero, suc, ◌+◌, ◌^◌, ◌≤◌, Bool, true, false, List, [], ◌∷◌, ◌++◌, length, length-append, inl, inr, refl, sym, ap, ◌∙◌, subst, arith, lit≤, pow_mono}
+use Rattle.std.specs.Prelude.{sum, if◌then◌else◌}
 use Rattle.std.proofs.lemmas.Bool.Decides.{nat_tests}
 use Rattle.std.proofs.lemmas.List.Elements.{All-contains}
 use Rattle.vm_isa.specs.declared.instr.VmInstr.{VmInstr}
 use Rattle.vm_isa.specs.declared.record.StepRecord.{StepRecord}
 use Rattle.vm_isa.specs.Instr.{InRange}
-use Rattle.vm_isa.specs.Means.{Fillable, Meaning, is_refused, means_of}
+use Rattle.vm_isa.specs.Means.{Fillable}
 use Rattle.vm_isa.specs.Opcodes.{has_meaning, is_opcode}
 use Rattle.vm_isa.specs.Slots.{slots_of}
-use Rattle.vm_isa.proofs.NextLaws.{meant}
 use Rattle.vm_transpile.specs.Program.{program_of}
 use Rattle.vm_transpile.proofs.Ranges.{rows_in_range}
 use Rattle.air_core.specs.ExtensionLaws.{ExtensionFits}
@@ -19,9 +16,9 @@ use Rattle.air_core.specs.ListLemmas.{all_append}
 use Rattle.air_core.specs.System.{System, is_owned}
 use Rattle.vm_executor.specs.Machine.{Machine, begun, Goes}
 use Rattle.vm_executor.specs.Runs.{Ran, StaysOrBegins, starting}
+use Rattle.vm_executor.proofs.RunLemmas.{no_end}
 use Rattle.vm_executor.proofs.SinceLemmas.{since_begun, since_more, since_records, step_fillable}
 use Rattle.vm_prover.specs.Laws.{AllOpcodesOwnRows, SegmentsComeUnderWay, RecordsGoOn, RecordsCanBeFilled}
-use Rattle.vm_prover.specs.Progress.{CanProve, UnderWay}
 use Rattle.vm_prover.proofs.HintLemmas.{hints_more, bytes_left}
 
 -- a segment may begin with each machine of a run
@@ -47,13 +44,9 @@ comes_under_way x version image hints ended segments lengths m leaves p =
       bytes = p.bytes;
     }
 
--- a TERMINATE has no meaning
-refused : (i : VmInstr) (olds : List (List ℕ)) → i.op ≡ 41 → is_refused i olds ≡ true
-unfolding is_refused
-refused i olds e = rw e refl
-
+-- a step is no TERMINATE
 goes_no_end : (program : List VmInstr) (s t : Machine) (d : StepRecord) → Goes program s t d → d.instr.op ≢ 41
-goes_no_end program s t d goes e = both_ways (is_refused d.instr _) (meant d.instr _ _ goes.meaning goes.means).fits (refused d.instr _ e)
+goes_no_end program s t d goes e = no_end d.instr _ _ goes.meaning e goes.means
 
 few_by : (a b c d : Bool) → (if a then 3 else if b then 2 else if c then 1 else if d then 26 else 0) ≤ 26
 few_by true b c d = lit≤ tt

@@ -1,7 +1,10 @@
-//! What whole segments come to. Each function does nothing: its contract is the law.
+//! What whole segments come to. Each function does nothing when it runs: its contract is the law.
 ghost use Rattle.vm_prover.specs.Laws.{AllOpcodesOwnRows, NoSegmentsStand, SegmentsComeUnderWay, RecordsGoOn, RecordsCanBeFilled, SegmentsGoOn, PutsGoOn, EachVersionTakes16384, EndedSegmentsProve, EndingRunsGoOn};
 
 use air_core::Extension;
+use vm_filler::laws::{
+    filled_segments_are_canonical, filled_segments_are_of_records, filled_segments_hold,
+};
 
 /// An extension of all opcodes of steps owns the rows of every program.
 pub fn all_opcodes_own_rows<E: Extension>()
@@ -24,7 +27,11 @@ pub fn a_segment_is_under_way<E: Extension>()
 /// A segment more, filled from these records, stands with those before it.
 pub fn segments_go_on<E: Extension>()
     ensures { (ext : E) → SegmentsGoOn (E.system ext) }
-{}
+{
+    filled_segments_hold::<E>();
+    filled_segments_are_canonical::<E>();
+    filled_segments_are_of_records::<E>();
+}
 
 /// Pages that are put one after the other give the leaves with all of them.
 pub fn puts_go_on()
