@@ -8,3 +8,5 @@ pub mod ChainLemmas
 pub mod SegmentLemmas
 pub mod EndLemmas
 pub mod PutLemmas
+pub mod Takes
+pub mod TreePuts

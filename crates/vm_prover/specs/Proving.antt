@@ -1,18 +1,14 @@
 -- What a prover answers, what it writes, and what it leaves behind.
-use Rattle.std.specs.Prelude.{◌≡◌, ◌⊎◌, ℕ, List, [], ◌∷◌, length, map, false, Result, IfOk, IfSome, OnErr}
+use Rattle.std.specs.Prelude.{◌≡◌, ◌⊎◌, ℕ, List, [], ◌∷◌, length, false, Result, IfOk, IfSome, OnErr}
 use Rattle.elf_image.specs.Loaded.{Loaded}
-use Rattle.rv_run.specs.Machine.{Machine}
-use Rattle.rv_run.specs.Run.{Goes}
 use Rattle.vm_host.specs.declared.HostError.{HostError}
 use Rattle.vm_host.specs.declared.Place.TheVariants.{Out}
 use Rattle.vm_host.specs.State.{HostState, then_more}
 use Rattle.vm_host.specs.Calls.{GrowsByPart, HasCause}
 use Rattle.vm_trace.specs.File.{File}
 use Rattle.air_core.specs.System.{System}
-use Rattle.acceptance.specs.Accepts.{Accepts}
-use Rattle.acceptance.specs.Events.{valid_rows}
-use Rattle.acceptance.specs.Spelled.{HintEvent, Spell, hints_before}
 use Rattle.table_format.specs.Texts.{file_text}
+use Rattle.vm_prover.specs.Progress.{StatesRun}
 use Rattle.vm_prover.specs.Survey.{EndsCut, TrapsCut, GoesPast}
 use Rattle.vm_prover.specs.declared.proving.Proved.{Proved}
 use Rattle.vm_prover.specs.declared.proving.Proving.{Proving}
@@ -33,37 +29,25 @@ ComesTo loaded hints per_segment proving.TooManySegments = GoesPast loaded hints
 
 -- ---- the file
 
--- the hints are those that a run of so many steps has left behind these
-pub record TakesHints (loaded : Loaded) (hints : List ℕ) (steps : ℕ) (events : List HintEvent) : Type 0 where
-  pub last : Machine
-  pub reached : Goes loaded hints steps last
-  pub taken : hints_before events last.hints ≡ hints
-
--- A file of this version that is accepted and states the run: its exit code and public bytes, the steps of each of its
--- segments, and the hints that it takes.
-pub record StatesRun (x : System) (version : ℕ) (loaded : Loaded) (hints : List ℕ) (per_segment : ℕ) (claim : Proved) (file : File) : Type 0 where
-  pub version_is : file.version ≡ version
-  pub accepts : Accepts x loaded file
-  pub code : file.code ≡ claim.code
-  pub public_bytes : file.public_bytes ≡ claim.public
-  pub so : EndsSo loaded hints per_segment claim
-  pub rows : map (valid_rows x) file.segments ≡ so.lengths
-  pub spelled : List HintEvent
-  pub spell : Spell x file.segments spelled
-  pub takes : TakesHints loaded hints claim.steps spelled
-
--- the bytes of such a file
-pub record SpellsRun (x : System) (version : ℕ) (loaded : Loaded) (hints : List ℕ) (per_segment : ℕ) (claim : Proved) (bytes : List ℕ) : Type 0 where
+-- the bytes of a file of this version that is accepted and states the run
+pub record SpellsRun (x : System) (version : ℕ) (loaded : Loaded) (hints lengths : List ℕ) (code : ℕ) (public_bytes bytes : List ℕ) : Type 0 where
   pub file : File
   pub text : bytes ≡ file_text file
-  pub states : StatesRun x version loaded hints per_segment claim file
+  pub version_is : file.version ≡ version
+  pub states : StatesRun x loaded hints lengths code public_bytes file
 
 -- ---- the host
 
--- What is left of a host: the whole file, closed, under its name; and where the run doesn't end so, all as it was.
+-- the output is closed, and what was written is the file of a run that ends so
+pub record WritesRun (x : System) (version : ℕ) (loaded : Loaded) (hints : List ℕ) (per_segment : ℕ) (claim : Proved) (new : HostState) : Type 0 where
+  pub so : EndsSo loaded hints per_segment claim
+  pub closed : new.output.creating ≡ false
+  pub written : IfSome new.output.written (SpellsRun x version loaded hints so.lengths claim.code claim.public)
+
+-- What is left of a host: the whole file under its name; and where the run doesn't end so, all as it was.
 abbrev pub LeavesBehind : System → ℕ → Loaded → List ℕ → ℕ → List ℕ → HostState → HostState → Proving → Type 0
 LeavesBehind x version loaded hints per_segment name old new (proving.Proved claim) =
-    (new.output.creating ≡ false) × IfSome new.output.written (SpellsRun x version loaded hints per_segment claim) × (new.named ≡ then_more old.named ((Out, name) ∷ []))
+    WritesRun x version loaded hints per_segment claim new × (new.named ≡ then_more old.named ((Out, name) ∷ []))
 LeavesBehind x version loaded hints per_segment name old new (proving.Trapped trap) = new ≡ old
 LeavesBehind x version loaded hints per_segment name old new proving.TooManySegments = new ≡ old
 

@@ -4,11 +4,15 @@
 mod cuts;
 mod cutting;
 pub mod laws;
+mod opening;
 mod plain_run;
 mod proving;
+mod records;
 
 pub use cuts::{cuts_are_within_limits, cuts_grow, survey_is_one};
 pub use cutting::Cutting;
+pub use opening::{Opening, open_pages};
 pub use plain_run::{Surveyed, survey};
 pub use proving::{Proved, Proving};
+pub use records::take_records;
 pub use std::alloc::AllocError as OutOfMemory;
