@@ -29,7 +29,7 @@ use Rattle.acceptance.specs.Spelled.{hints_before}
 use Rattle.acceptance.proofs.CanonicalTrees.{path_canonical}
 use Rattle.acceptance.proofs.Example.{end_in_range, path_levels, path_digests_of}
 use Rattle.vm_prover.specs.Laws.{EndedSegmentsProve, EndingRunsGoOn}
-use Rattle.vm_prover.specs.Progress.{CanProve, Progress, EndsAccepted, file_of}
+use Rattle.vm_prover.specs.Progress.{CanProve, Progress, StatesRun, file_of}
 use Rattle.vm_prover.proofs.ChainLemmas.{steps_are_sum}
 use Rattle.vm_prover.proofs.LeafLemmas.{public_leaf}
 
@@ -113,8 +113,8 @@ module _ (x : System) (version : ℕ) (image : Loaded) (hints : Hints) (segments
         };
       }
 
-  pub ends_accepted : EndsAccepted x image hints lengths code public_bytes (file_of version segments code leaves)
-  ends_accepted = record {
+  pub states_run : StatesRun x image hints lengths code public_bytes (file_of version segments code leaves)
+  states_run = record {
     accepts = accepted;
     code_is = refl;
     public_are = shown;
@@ -127,4 +127,4 @@ module _ (x : System) (version : ℕ) (image : Loaded) (hints : Hints) (segments
 
 pub ended_segments_prove : (x : System) → EndedSegmentsProve x
 ended_segments_prove x version image hints segments lengths m leaves code public_bytes can p some few ending =
-    ends_accepted x version image hints segments lengths m leaves code public_bytes can p some few ending
+    states_run x version image hints segments lengths m leaves code public_bytes can p some few ending

@@ -25,7 +25,7 @@ use Rattle.vm_executor.specs.Records.{AreRecords}
 use Rattle.vm_executor.specs.Runs.{IsWent, Ran, starting}
 use Rattle.vm_executor.specs.State.{IsStep}
 use Rattle.vm_filler.specs.Segment.{SegmentFilled}
-use Rattle.vm_prover.specs.Progress.{CanProve, OwnsRows, UnderWay, Progress, FitsVersion, EndsAccepted, segment_from, file_of}
+use Rattle.vm_prover.specs.Progress.{CanProve, OwnsRows, UnderWay, Progress, FitsVersion, StatesRun, segment_from, file_of}
 
 -- tables for all opcodes of steps are tables for the rows of every program
 abbrev pub AllOpcodesOwnRows : System → Type 0
@@ -71,7 +71,7 @@ EachVersionTakes16384 = (version number : ℕ) → number ≤ 16384 → FitsVers
 abbrev pub EndedSegmentsProve : System → Type 0
 EndedSegmentsProve x = (version : ℕ) (image : Loaded) (hints : Hints) (segments : List Segment) (lengths : List ℕ) (m : Machine) (leaves : Leaves) (code : ℕ) (public_bytes : List ℕ) → CanProve x version image hints
     → Progress x version image hints true segments lengths m leaves → 1 ≤ length lengths → length lengths ≤ 4096 → Ends image hints (sum lengths) code public_bytes
-    → EndsAccepted x image hints lengths code public_bytes (file_of version segments code leaves)
+    → StatesRun x image hints lengths code public_bytes (file_of version segments code leaves)
 
 -- On the way of a run that ends after n steps, each step goes on, and at its end the machine ends with its exit code.
 abbrev pub EndingRunsGoOn : Type 0

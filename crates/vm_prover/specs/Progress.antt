@@ -115,7 +115,7 @@ pub record TakesHints (image : Loaded) (hints : Hints) (steps : ℕ) (events : L
 
 -- A file is accepted and states a run on these hints that was cut into segments of these lengths, and ended so: each
 -- segment has as many valid rows, and together they spell the hints that the run takes.
-pub record EndsAccepted (x : System) (image : Loaded) (hints : Hints) (lengths : List ℕ) (code : ℕ) (public_bytes : List ℕ) (file : File) : Type 0 where
+pub record StatesRun (x : System) (image : Loaded) (hints : Hints) (lengths : List ℕ) (code : ℕ) (public_bytes : List ℕ) (file : File) : Type 0 where
   pub accepts : Accepts x image file
   pub code_is : file.code ≡ code
   pub public_are : file.public_bytes ≡ public_bytes
