@@ -10,3 +10,4 @@ pub mod EndLemmas
 pub mod PutLemmas
 pub mod Takes
 pub mod TreePuts
+pub mod Making

@@ -1,7 +1,10 @@
 -- A segment as it is made: its records, and what stands with it.
-use Rattle.std.specs.Prelude.{◌≡◌, ℕ, ◌+◌, ◌≤◌, Bool, false, List, [], ◌∷◌, ◌++◌, length, sum}
+use Rattle.std.specs.Prelude.{◌≡◌, ℕ, ◌+◌, ◌<◌, ◌≤◌, Bool, true, false, List, [], ◌∷◌, ◌++◌, flat_map, get_or, length, sum, None, IfSome, Result}
 use Rattle.elf_image.specs.Loaded.{Loaded}
 use Rattle.rv_run.specs.Run.{Ends}
+use Rattle.vm_host.specs.declared.HostError.{HostError}
+use Rattle.vm_host.specs.Calls.{HasCause}
+use Rattle.vm_host.specs.State.{HostState}
 use Rattle.vm_isa.specs.declared.instr.VmInstr.{VmInstr}
 use Rattle.vm_isa.specs.declared.record.StepRecord.{StepRecord}
 use Rattle.vm_isa.specs.Hints.{Hints}
@@ -11,7 +14,11 @@ use Rattle.air_core.specs.System.{System}
 use Rattle.page_tree.specs.Tree.{Leaves}
 use Rattle.vm_transpile.specs.Program.{program_of}
 use Rattle.vm_executor.specs.Machine.{Machine, begun}
+use Rattle.table_format.specs.declared.table_writer.TableWriter.{TableWriter}
+use Rattle.table_format.specs.Texts.{head_text, piece_text}
+use Rattle.table_format.specs.Writing.{IsMadeOf}
 use Rattle.vm_prover.specs.Progress.{CanProve, Progress, UnderWay}
+use Rattle.vm_prover.specs.declared.segment.Parts.{Parts}
 
 -- a run that ends and can be proved with an extension
 pub record Run (x : System) : Type 0 where
@@ -36,3 +43,54 @@ pub record GoesOn {x : System} (run : Run x) (program : List VmInstr) (from : Ma
 pub record AreTaken {x : System} (run : Run x) (from : Machine) (steps count : ℕ) (done : List StepRecord) (m : Machine) : Type 0 where
   pub under : UnderWay x run.image run.hints from steps done m
   pub count_is : length done ≡ count
+
+-- Whole segments of these lengths lead to a machine, and its memory to these leaves.
+abbrev pub Stands : {x : System} → Run x → Bool → List Segment → List ℕ → Machine → Leaves → Type 0
+Stands {x} run ended segments lengths m leaves = Progress x run.version run.image run.hints ended segments lengths m leaves
+
+-- None of them ends the run, and behind them so many steps more go on.
+pub record IsReady {x : System} (run : Run x) (program : List VmInstr) (m : Machine) (leaves : Leaves) (segments : List Segment) (lengths : List ℕ) (count : ℕ) : Type 0 where
+  pub over : program ≡ program_of run.image
+  pub stand : Stands run false segments lengths m leaves
+  pub within : sum lengths + count ≤ run.steps
+  pub few : count ≤ 16384
+
+-- One segment more, which has these parts.
+pub record IsMade {x : System} (run : Run x) (ends : Bool) (segments : List Segment) (lengths : List ℕ) (count : ℕ) (m : Machine) (leaves : Leaves) (parts : Parts) : Type 0 where
+  pub segment : Segment
+  pub made : IsMadeOf parts.connector parts.opening.start parts.opening.end parts.tables parts.pages.items parts.opening.siblings.items segment
+  pub stand : Stands run ends (segments ++ segment ∷ []) (lengths ++ count ∷ []) m leaves
+
+-- ---- what is written
+
+-- the writer has begun a file of this version, and answered no error
+pub record IsWriting (version : ℕ) (w : TableWriter) : Type 0 where
+  pub version_is : w.version ≡ version
+  pub unfinished : w.finished ≡ false
+  pub sound : w.error ≡ None
+
+-- The output stands open, with the head and whole segments that lead to a machine.
+pub record IsWritten {x : System} (run : Run x) (ended : Bool) (lengths : List ℕ) (m : Machine) (leaves : Leaves) (w : TableWriter) (s : HostState) : Type 0 where
+  pub segments : List Segment
+  pub stand : Stands run ended segments lengths m leaves
+  pub told : IfSome s.output.written (λ bytes. bytes ≡ head_text run.version ++ flat_map piece_text segments)
+  pub creating : s.output.creating ≡ true
+  pub writing : IsWriting run.version w
+
+-- the lengths of segments of a whole run
+pub record IsPlan {x : System} (run : Run x) (lengths : List ℕ) : Type 0 where
+  pub all : sum lengths ≡ run.steps
+  pub some : 1 ≤ length lengths
+  pub few : length lengths ≤ 4096
+  pub short : (k d : ℕ) → k < length lengths → get_or lengths k d ≤ 16384
+
+-- nothing but the head is written, and segments of these lengths are to follow
+pub record IsToWrite {x : System} (run : Run x) (program : List VmInstr) (lengths : List ℕ) (m : Machine) (leaves : Leaves) (w : TableWriter) (s : HostState) : Type 0 where
+  pub over : program ≡ program_of run.image
+  pub plan : IsPlan run lengths
+  pub written : IsWritten run false [] m leaves w s
+
+-- a call that goes on with an output: it writes, and may fail
+pub record GoesOnWriting {T : Type 0} (s t : HostState) (result : Result T HostError) : Type 0 where
+  pub cause : HasCause s.faults t.faults result
+  pub frame : t ≡ record s { faults = t.faults; output = t.output }

@@ -3,11 +3,13 @@
 
 mod cuts;
 mod cutting;
+mod filling;
 pub mod laws;
 mod opening;
 mod plain_run;
 mod proving;
 mod records;
+mod segment;
 
 pub use cuts::{cuts_are_within_limits, cuts_grow, survey_is_one};
 pub use cutting::Cutting;
@@ -15,4 +17,5 @@ pub use opening::{Opening, open_pages};
 pub use plain_run::{Surveyed, survey};
 pub use proving::{Proved, Proving};
 pub use records::take_records;
+pub use segment::{Parts, make_segment};
 pub use std::alloc::AllocError as OutOfMemory;
