@@ -11,3 +11,5 @@ pub mod PutLemmas
 pub mod Takes
 pub mod TreePuts
 pub mod Making
+pub mod Writes
+pub mod Chapters

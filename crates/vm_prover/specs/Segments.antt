@@ -4,7 +4,7 @@ use Rattle.elf_image.specs.Loaded.{Loaded}
 use Rattle.rv_run.specs.Run.{Ends}
 use Rattle.vm_host.specs.declared.HostError.{HostError}
 use Rattle.vm_host.specs.Calls.{HasCause}
-use Rattle.vm_host.specs.State.{HostState}
+use Rattle.vm_host.specs.State.{HostState, then_more}
 use Rattle.vm_isa.specs.declared.instr.VmInstr.{VmInstr}
 use Rattle.vm_isa.specs.declared.record.StepRecord.{StepRecord}
 use Rattle.vm_isa.specs.Hints.{Hints}
@@ -16,7 +16,7 @@ use Rattle.vm_transpile.specs.Program.{program_of}
 use Rattle.vm_executor.specs.Machine.{Machine, begun}
 use Rattle.table_format.specs.declared.table_writer.TableWriter.{TableWriter}
 use Rattle.table_format.specs.Texts.{head_text, piece_text}
-use Rattle.table_format.specs.Writing.{IsMadeOf}
+use Rattle.table_format.specs.Writing.{IsMadeOf, IsSegmentOf}
 use Rattle.vm_prover.specs.Progress.{CanProve, Progress, UnderWay}
 use Rattle.vm_prover.specs.declared.segment.Parts.{Parts}
 
@@ -93,4 +93,19 @@ pub record IsToWrite {x : System} (run : Run x) (program : List VmInstr) (length
 -- a call that goes on with an output: it writes, and may fail
 pub record GoesOnWriting {T : Type 0} (s t : HostState) (result : Result T HostError) : Type 0 where
   pub cause : HasCause s.faults t.faults result
+  pub frame : t ≡ record s { faults = t.faults; output = t.output }
+
+-- the parts are those of a segment of the form, of this version
+abbrev pub IsSegmentOfParts : ℕ → Parts → Segment → Type 0
+IsSegmentOfParts version parts segment = IsSegmentOf version parts.connector parts.opening.start parts.opening.end parts.tables parts.pages.items parts.opening.siblings.items segment
+
+-- a segment was written behind what was written, and the file goes on
+pub record WritesPiece (version : ℕ) (segment : Segment) (w : TableWriter) (s t : HostState) : Type 0 where
+  pub written : t.output.written ≡ then_more s.output.written (piece_text segment)
+  pub creating : t.output.creating ≡ true
+  pub writing : IsWriting version w
+
+-- the same host, with an output that went on, and maybe more faults
+pub record IsLater (s t : HostState) : Type 0 where
+  pub later : s.faults ≤ t.faults
   pub frame : t ≡ record s { faults = t.faults; output = t.output }

@@ -3,6 +3,7 @@
 
 mod cuts;
 mod cutting;
+mod file;
 mod filling;
 pub mod laws;
 mod opening;
@@ -13,6 +14,7 @@ mod segment;
 
 pub use cuts::{cuts_are_within_limits, cuts_grow, survey_is_one};
 pub use cutting::Cutting;
+pub use file::write_segments;
 pub use opening::{Opening, open_pages};
 pub use plain_run::{Surveyed, survey};
 pub use proving::{Proved, Proving};
