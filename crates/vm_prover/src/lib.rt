@@ -4,7 +4,6 @@
 mod cuts;
 mod cutting;
 mod file;
-mod filling;
 pub mod laws;
 mod opening;
 mod plain_run;

@@ -6,7 +6,6 @@ ghost use Rattle.vm_executor.specs.State.{machine_of, program_of};
 ghost use Rattle.vm_prover.specs.Segments.{IsMade, IsReady, Run};
 
 use crate::OutOfMemory;
-use crate::filling::fill_segment;
 use crate::laws::segments_go_on;
 use crate::opening::{Opening, open_pages};
 use crate::records::take_records;
@@ -15,6 +14,7 @@ use page_tree::Tree;
 use std::alloc::Global;
 use table_format::item::Connector;
 use vm_executor::Machine;
+use vm_filler::fill_segment;
 use vm_trace::{Tables, Touched};
 use vm_transpile::Program;
 
@@ -44,7 +44,6 @@ pub fn make_segment<E: Extension>(
         → IsMade run ends segments lengths count (machine_of machine.new) (leaves_of tree.new) parts) }
 {
     segments_go_on::<E>();
-    program.rows_rise();
     let pc_start = machine.pc();
     let records = take_records(alloc, machine, count)?;
     let tables = fill_segment(alloc, ext, program, &records)?;
