@@ -5,3 +5,4 @@ pub mod ChainLemmas
 pub mod SegmentLemmas
 pub mod EndLemmas
 pub mod PutLemmas
+pub mod WrittenLemmas

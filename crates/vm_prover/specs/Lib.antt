@@ -1,2 +1,3 @@
 pub mod Progress
+pub mod Written
 pub mod Laws
