@@ -1,5 +1,5 @@
 -- The tables that records fill balance with their connector, with pages that fit them and with the entries.
-use Rattle.std.proofs.Common.{◌≡◌, ℕ, zero, suc, ◌+◌, ◌<◌, ◌≤◌, Bool, true, false, List, [], ◌∷◌, ◌++◌, length, Some, refl, sym, ap, ◌∙◌, subst, arith, ⊎_elim}
+use Rattle.std.proofs.Common.{◌≡◌, ℕ, zero, suc, ◌+◌, ◌<◌, ◌≤◌, true, false, List, [], ◌∷◌, ◌++◌, length, Some, refl, sym, ◌∙◌, subst, arith, ⊎_elim}
 use Rattle.std.specs.Prelude.{flat_map, replicate}
 use Rattle.std.specs.List.{AllByRecursion}
 use Rattle.std.proofs.lemmas.Bool.{cases_Bool}
@@ -9,7 +9,6 @@ use Rattle.vm_isa.specs.Means.{Fillable}
 use Rattle.vm_trace.specs.declared.count.CountEntry.{CountEntry}
 use Rattle.vm_trace.specs.declared.page.Touched.{Touched}
 use Rattle.air_core.specs.declared.event.Event.{Event}
-use Rattle.air_core.specs.declared.event.Side.{Side}
 use Rattle.air_core.specs.declared.event.Side.TheVariants.{Send, Receive}
 use Rattle.air_core.specs.Balance.{total, Balanced}
 use Rattle.air_core.specs.Counts.{weight}
@@ -22,7 +21,6 @@ use Rattle.air_core.specs.ExtensionLaws.{QuietZeros}
 use Rattle.air_core.proofs.BalanceLemmas.{total-append}
 use Rattle.air_core.proofs.RecordLemmas.{said_once}
 use Rattle.air_core.proofs.Totals.{total_send-given_first, total_receive-given_first}
-use Rattle.exec_path.specs.Path.{Point}
 use Rattle.exec_path.specs.PathEvents.{point_tuple, connector_events}
 use Rattle.offline_memory.specs.MemoryEvents.{access_events, boundary_events}
 use Rattle.offline_memory.specs.Linked.{PagesFit}
@@ -33,7 +31,7 @@ use Rattle.acceptance.specs.Events.{fixed_row, received_on}
 use Rattle.acceptance.proofs.Lookups.{pages_on}
 use Rattle.vm_filler.specs.Tables.{zero_row, AreFilledTables}
 use Rattle.vm_filler.specs.Uses.{fixed_rows, uses_of, entries_of}
-use Rattle.vm_filler.proofs.Entries.{received_as_sent, entries_send, entries_bus}
+use Rattle.vm_filler.proofs.EntryEvents.{received_as_sent, entries_send, entries_bus}
 use Rattle.vm_filler.proofs.Exchange.{exchange, each_filled}
 use Rattle.vm_filler.proofs.FixedRows.{OnePlace, program_places, lookup_places, program_below, lookup_below, uses_at}
 use Rattle.vm_filler.proofs.Lawful.{Lawful}
@@ -65,7 +63,7 @@ zeros_good (p ∷ parts) quiet = (
 -- ---- what the rows say
 
 module _ (x : System) (lawful : Lawful x) (program : List VmInstr) (pc : ℕ) (done : List StepRecord) (records : AreRecords x program pc done) (tables : List (List (List ℕ))) (filled : AreFilledTables done x.parts tables) where
-  abbrev of : StepRecord → List Event
+  abbrev pub of : StepRecord → List Event
   of d = all_events x.parts (tables_for d x.parts)
 
   said_each : (ds : List StepRecord) → AllByRecursion (λ d. is_owned x.parts d.instr.op ≡ true) ds → AllByRecursion (λ d. Fillable x.time_bits d) ds → AllByRecursion (λ d. Recorded d (of d)) ds

@@ -1,6 +1,6 @@
 -- The numbers of records are below the field's modulus: pcs, times of accesses and where the records end.
-use Rattle.std.proofs.Common.{◌≡◌, ℕ, ◌+◌, ◌*◌, ◌^◌, ◌<◌, ◌≤◌, Bool, true, false, cond, ◌&&◌, ◌||◌, nat_eq, nat_lt, List, [], ◌∷◌, ◌++◌, length, map, Option, Some, None, refl, sym, ap, ◌∙◌, subst, arith, ⊎_elim, inl, inr}
-use Rattle.std.specs.Prelude.{not, if◌then◌else◌, flat_map}
+use Rattle.std.proofs.Common.{◌≡◌, ℕ, ◌+◌, ◌^◌, ◌<◌, ◌≤◌, Bool, true, false, cond, ◌&&◌, ◌||◌, nat_eq, nat_lt, List, [], ◌∷◌, length, map, Option, Some, refl, sym, ap, ◌∙◌, subst, arith}
+use Rattle.std.specs.Prelude.{not, if◌then◌else◌}
 use Rattle.std.specs.List.{AllByRecursion}
 use Rattle.std.proofs.Math.Pow.{pow_mono}
 use Rattle.std.proofs.lemmas.Bool.{eqb-true}
@@ -11,7 +11,7 @@ use Rattle.vm_isa.specs.declared.instr.VmInstr.{VmInstr}
 use Rattle.vm_isa.specs.declared.record.StepRecord.{StepRecord}
 use Rattle.vm_isa.specs.Instr.{InRange}
 use Rattle.vm_isa.specs.Laws.{SlotsRise}
-use Rattle.vm_isa.specs.Means.{Accessed, Meaning, Placed, Fillable, after, bars_first, bars_second, is_high, is_refused, jalr_target, known, means_of, next_of, places_by, places_of, placed, placed_at, register, word_at}
+use Rattle.vm_isa.specs.Means.{Accessed, Meaning, Placed, Fillable, after, bars_first, bars_second, is_high, is_refused, jalr_target, known, next_of, places_by, places_of, placed, placed_at, register, word_at}
 use Rattle.vm_isa.specs.Opcodes.{has_meaning, is_branch, is_load, is_store, JAL, JALR}
 use Rattle.vm_isa.specs.Results.{is_taken}
 use Rattle.vm_isa.specs.Slots.{slots_of}

@@ -1,19 +1,18 @@
 -- A filled segment is canonical.
-use Rattle.std.proofs.Common.{◌≡◌, ℕ, zero, suc, ◌+◌, ◌-◌, ◌*◌, ◌^◌, ◌<◌, ◌≤◌, Bool, true, false, cond, nat_eq, nat_le, List, [], ◌∷◌, length, map, slice_index, slice_index_or, Option, Some, None, refl, sym, ap, ◌∙◌, subst, arith, ⊎_elim, inl, inr}
+use Rattle.std.proofs.Common.{◌≡◌, ℕ, zero, suc, ◌+◌, ◌*◌, ◌^◌, ◌<◌, ◌≤◌, Bool, true, false, nat_eq, nat_le, List, [], ◌∷◌, length, map, slice_index, slice_index_or, Option, Some, None, refl, sym, ap, ◌∙◌, subst, arith, ⊎_elim, inl, inr}
 use Rattle.std.specs.Prelude.{if◌then◌else◌, replicate}
 use Rattle.std.specs.List.{AllByRecursion}
 use Rattle.std.specs.List.Sorted.{IsStrictlyIncreasing}
 use Rattle.std.proofs.Math.Pow.{pow_mono}
-use Rattle.std.proofs.lemmas.Bool.{cases_lt, eq-eqb, ne_eqb}
+use Rattle.std.proofs.lemmas.Bool.{cases_lt, ne_eqb}
 use Rattle.std.proofs.lemmas.Bool.Decides.{nat_tests}
 use Rattle.std.proofs.lemmas.Nat.{pow_pos}
 use Rattle.vm_field.specs.Field.{modulus}
 use Rattle.vm_isa.specs.declared.instr.VmInstr.{VmInstr}
 use Rattle.vm_isa.specs.declared.record.StepRecord.{StepRecord}
 use Rattle.vm_trace.specs.declared.page.Touched.{Touched}
-use Rattle.vm_trace.specs.Canonical.{IsElement, IsNumber, IsDigest, IsTable, AreTables, HasWidth, IsCanonicalPage, IsCanonicalSegment, height_of}
+use Rattle.vm_trace.specs.Canonical.{IsElement, IsDigest, AreTables, HasWidth, IsCanonicalPage, IsCanonicalSegment, height_of}
 use Rattle.vm_trace.specs.Contents.{Contents, rows_by_table}
-use Rattle.vm_trace.specs.File.{Segment}
 use Rattle.vm_trace.specs.Limits.{Limits}
 use Rattle.vm_trace.specs.Pages.{IsMachineLabel}
 use Rattle.air_core.specs.ExtensionLaws.{PartRows}
@@ -21,7 +20,6 @@ use Rattle.air_core.specs.ListLemmas.{all_weaker, below_at}
 use Rattle.air_core.specs.Orders.{Member}
 use Rattle.air_core.specs.System.{System, Part, EachRow, GoodRow}
 use Rattle.air_core.proofs.ElementLemmas.{all_at, all_from_members, all_map}
-use Rattle.exec_path.specs.Path.{Point}
 use Rattle.lookup_tables.specs.Rows.{exponent_up_to}
 use Rattle.offline_memory.specs.Linked.{unmet, BlockFits, PagesFit, first_word}
 use Rattle.offline_memory.specs.Memory.{Access, Block, after_all}
@@ -33,14 +31,14 @@ use Rattle.page_tree.specs.Tree.{Leaves, some_below}
 use Rattle.page_tree.proofs.PartLemmas.{needed-le}
 use Rattle.vm_transpile.specs.Order.{RisesFrom}
 use Rattle.vm_transpile.proofs.RowOrder.{rises_few}
-use Rattle.vm_executor.specs.Records.{AreRecords, accesses_of, start_at, point_after}
+use Rattle.vm_executor.specs.Records.{AreRecords, accesses_of, start_at}
 use Rattle.acceptance.specs.Holds.{IsMachinePage}
 use Rattle.acceptance.proofs.CanonicalTrees.{hash_canonical}
 use Rattle.vm_filler.specs.Laws.{FilledSegmentsAreCanonical, shape_over}
 use Rattle.vm_filler.specs.Segment.{SegmentFilled, PagesOpened, height_code, height_codes_of, filled_segment}
-use Rattle.vm_filler.specs.Tables.{IsHeight, IsFilledTable, AreFilledTables, filled_rows}
+use Rattle.vm_filler.specs.Tables.{IsHeight, AreFilledTables, filled_rows}
 use Rattle.vm_filler.proofs.Balance.{rows_good}
-use Rattle.vm_filler.proofs.Bounds.{Low, ends_low, last_low, times_low}
+use Rattle.vm_filler.proofs.Bounds.{ends_low, last_low, times_low}
 use Rattle.vm_filler.proofs.EntriesFit.{entries_canonical}
 use Rattle.vm_filler.proofs.Lawful.{Lawful}
 use Rattle.vm_filler.proofs.Limits.{filled_few, filled_length, height_is, next_power, twice_at_most}

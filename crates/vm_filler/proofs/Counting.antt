@@ -3,7 +3,6 @@ use Rattle.std.proofs.Common.{◌≡◌, ℕ, ◌+◌, Bool, true, false, cond, 
 use Rattle.std.specs.Prelude.{count_by}
 use Rattle.std.specs.List.{AllByRecursion}
 use Rattle.std.proofs.lemmas.List.Recursion.{is_count_by}
-use Rattle.vm_isa.specs.declared.instr.VmInstr.{VmInstr}
 use Rattle.vm_isa.specs.declared.record.StepRecord.{StepRecord}
 use Rattle.vm_isa.specs.Means.{Fillable}
 use Rattle.vm_trace.specs.File.{Segment}
@@ -14,11 +13,9 @@ use Rattle.air_core.specs.Sheet.{Sheet, row_events}
 use Rattle.air_core.specs.System.{System, Part, is_owned, tables_for}
 use Rattle.air_core.specs.ExtensionLaws.{QuietZeros}
 use Rattle.air_core.proofs.Counting.{weight-append, weight-map}
-use Rattle.vm_executor.specs.Records.{AreRecords}
-use Rattle.acceptance.specs.Events.{is_valid, said_by_rows, valid_rows}
+use Rattle.acceptance.specs.Events.{is_valid, said_by_rows}
 use Rattle.acceptance.proofs.Row.{silent_invalid}
 use Rattle.vm_filler.specs.Laws.{FilledSegmentsCountRecords}
-use Rattle.vm_filler.specs.Segment.{IsFilledSegment}
 use Rattle.vm_filler.specs.Tables.{zero_row, AreFilledTables}
 use Rattle.vm_filler.proofs.Exchange.{row_sum, exchange_rows}
 use Rattle.vm_filler.proofs.Lawful.{Lawful}

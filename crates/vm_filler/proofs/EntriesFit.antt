@@ -1,5 +1,5 @@
 -- The entries of counts are those of a canonical list.
-use Rattle.std.proofs.Common.{◌≡◌, ℕ, zero, suc, ◌+◌, ◌*◌, ◌^◌, ◌<◌, ◌≤◌, Bool, true, false, cond, nat_eq, List, [], ◌∷◌, length, map, Option, Some, None, refl, sym, ap, ◌∙◌, subst, arith}
+use Rattle.std.proofs.Common.{◌≡◌, ℕ, suc, ◌+◌, ◌^◌, ◌<◌, ◌≤◌, Bool, true, false, cond, nat_eq, List, [], ◌∷◌, length, Option, Some, None, refl, sym, ◌∙◌, subst, arith}
 use Rattle.std.specs.List.{AllByRecursion, range_with_len}
 use Rattle.std.proofs.lemmas.Bool.{eq-eqb}
 use Rattle.vm_isa.specs.declared.instr.VmInstr.{VmInstr}
@@ -8,7 +8,6 @@ use Rattle.vm_trace.specs.declared.count.CountEntry.{CountEntry}
 use Rattle.vm_trace.specs.Canonical.{AreEntries, IsCountList}
 use Rattle.air_core.specs.declared.event.Event.{Event}
 use Rattle.air_core.specs.declared.event.Side.TheVariants.{Send}
-use Rattle.air_core.specs.Balance.{total}
 use Rattle.air_core.specs.Laws.{is_lookup}
 use Rattle.air_core.specs.System.{System, all_events}
 use Rattle.air_core.proofs.ElementLemmas.{all_map}

@@ -1,5 +1,5 @@
 -- The sums of a weight over the rows of all tables are those of the records, one after the other.
-use Rattle.std.proofs.Common.{◌≡◌, ℕ, zero, suc, ◌+◌, List, [], ◌∷◌, ◌++◌, refl, sym, ap, ◌∙◌, subst, arith}
+use Rattle.std.proofs.Common.{◌≡◌, ℕ, zero, suc, ◌+◌, List, [], ◌∷◌, refl, sym, ap, ◌∙◌, subst, arith}
 use Rattle.std.specs.Prelude.{flat_map, replicate}
 use Rattle.std.specs.List.{AllByRecursion}
 use Rattle.vm_isa.specs.declared.record.StepRecord.{StepRecord}
@@ -14,7 +14,7 @@ use Rattle.air_core.proofs.BalanceLemmas.{total-append}
 use Rattle.air_core.proofs.Counting.{weight-append, weight-flat_map}
 use Rattle.air_core.proofs.ElementLemmas.{all_flat_map}
 use Rattle.air_core.proofs.Totals.{total_each}
-use Rattle.vm_filler.specs.Tables.{filled_rows, zero_row, then_zero_rows, IsFilledTable, AreFilledTables}
+use Rattle.vm_filler.specs.Tables.{filled_rows, zero_row, IsFilledTable, AreFilledTables}
 
 -- the sum of a weight over the rows of all tables
 abbrev pub row_sum : (Sheet → List ℕ → ℕ) → List Part → List (List (List ℕ)) → ℕ

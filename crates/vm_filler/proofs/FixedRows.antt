@@ -1,5 +1,5 @@
 -- Rows of the fixed tables and their places, and how often they are sent.
-use Rattle.std.proofs.Common.{◌≡◌, ◌≢◌, ℕ, zero, suc, ◌+◌, ◌<◌, ◌≤◌, true, false, nat_eq, List, [], ◌∷◌, length, slice_index, slice_get, Option, Some, None, refl, sym, ap, ◌∙◌, subst, arith}
+use Rattle.std.proofs.Common.{◌≡◌, ℕ, zero, suc, ◌+◌, ◌<◌, ◌≤◌, false, nat_eq, List, [], ◌∷◌, length, slice_index, slice_get, Option, Some, None, refl, sym, ap, ◌∙◌, arith}
 use Rattle.std.specs.Option.{option_map}
 use Rattle.std.proofs.lemmas.Bool.{ne_eqb}
 use Rattle.std.proofs.lemmas.List.FromFn.{get_or-map-range_with_len, length-map-range_with_len}
@@ -9,7 +9,7 @@ use Rattle.vm_isa.specs.Instr.{numbers_of}
 use Rattle.air_core.specs.declared.event.Event.{Event}
 use Rattle.air_core.specs.declared.event.Side.TheVariants.{Send}
 use Rattle.air_core.specs.Balance.{total}
-use Rattle.lookup_tables.specs.Places.{IsRowAt, rows_of}
+use Rattle.lookup_tables.specs.Places.{IsRowAt}
 use Rattle.lookup_tables.proofs.PlaceLemmas.{one_place, rows_below}
 use Rattle.lookup_tables.proofs.RowsAt.{row_at-is}
 use Rattle.vm_transpile.specs.Order.{RisesFrom}

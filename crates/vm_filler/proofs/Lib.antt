@@ -1,8 +1,8 @@
+pub mod Lawful
 mod Exchange
-mod Lawful
 mod Owners
 mod FixedRows
-mod Entries
+mod EntryEvents
 mod RecordSums
 mod SevenLists
 mod Sent
@@ -15,3 +15,8 @@ mod Spells
 mod EntriesFit
 mod Bounds
 mod Canonical
+mod CountLemmas
+mod RowsLemmas
+mod TablesLemmas
+mod PushLemmas
+mod SegmentLemmas

@@ -1,11 +1,12 @@
 -- How high tables are, how many slots they have, and how often a row of a fixed table is used.
-use Rattle.std.proofs.Common.{◌≡◌, ℕ, zero, suc, ◌+◌, ◌*◌, ◌^◌, ◌<◌, ◌≤◌, Bool, true, false, cond, List, [], ◌∷◌, length, length-append, refl, sym, ap, ◌∙◌, subst, arith, ⊎_elim}
-use Rattle.std.specs.Prelude.{flat_map, replicate, sum_by}
+use Rattle.std.proofs.Common.{◌≡◌, ℕ, zero, suc, ◌+◌, ◌-◌, ◌*◌, ◌^◌, ◌<◌, ◌≤◌, Bool, true, false, cond, List, [], ◌∷◌, length, length-append, refl, sym, ap, ◌∙◌, subst, arith, ⊎_elim}
+use Rattle.std.specs.Prelude.{replicate, sum_by}
 use Rattle.std.specs.List.{AllByRecursion}
 use Rattle.std.proofs.lemmas.Bool.{cases_Bool, cases_lt}
 use Rattle.std.proofs.lemmas.List.FromFn.{length-map-range_with_len}
 use Rattle.std.proofs.lemmas.Nat.{pow_pos, pow-add}
 use Rattle.std.proofs.Math.Nat.{mul-le-mul_right}
+use Rattle.std.proofs.Math.Pow.{pow_mono}
 use Rattle.std.proofs.lemmas.List.Sums.{sum_by-cons}
 use Rattle.vm_isa.specs.declared.record.StepRecord.{StepRecord}
 use Rattle.vm_isa.specs.Means.{Fillable}
@@ -84,7 +85,7 @@ twice_at_most rows height is =
     (λ (none : rows ≤ 0). omega (arith, is.none (omega (arith, none))))
     (cases_lt 0 rows)
 
-repeated_length : {X : Type 0} (n : ℕ) (x : X) → length (replicate n x) ≡ n
+pub repeated_length : {X : Type 0} (n : ℕ) (x : X) → length (replicate n x) ≡ n
 repeated_length zero x = refl
 repeated_length (suc n) x = omega (arith, repeated_length n x)
 
@@ -164,3 +165,16 @@ pub slots_bound : (bits : ℕ) (done : List StepRecord) (parts : List Part) (tab
     → most_slots parts tables ≤ 128 * length done
 slots_bound bits done parts tables filled fits rows one =
     omega (arith, slots_twice done parts tables filled, weight_few (slots_for parts) 64 done (λ d. slots_few bits parts d fits rows one))
+
+-- the next power of two is the height
+pub height_made : (rows height k : ℕ) → 1 ≤ rows → height ≡ 2 ^ k → rows ≤ height → height ≤ 2 * rows - 1 → IsHeight rows height
+height_made rows height k some power holds most = record {
+  none = λ z. absurd (omega (arith, z, some));
+  power = λ h. (k, power);
+  holds = holds;
+  least = λ j low.
+      ⊎_elim
+      (λ (less : j < k). let up : 2 ^ suc j ≤ 2 ^ k = pow_mono (let h : suc j ≤ k = omega (arith, less) in h) in absurd (omega (arith, up, next_power j, power, most, low, some)))
+      (λ (more : k ≤ j). let up : 2 ^ k ≤ 2 ^ j = pow_mono more in omega (arith, up, power))
+      (cases_lt j k);
+}

@@ -1,5 +1,5 @@
 -- Of the rows that a record fills one says something on the machine's buses: its owner's.
-use Rattle.std.proofs.Common.{◌≡◌, ℕ, ◌+◌, ◌<◌, ◌≤◌, Bool, true, false, ◌||◌, List, [], ◌∷◌, map, refl, ap, ◌∙◌, arith, ⊎_elim}
+use Rattle.std.proofs.Common.{◌≡◌, ℕ, ◌<◌, ◌≤◌, Bool, true, false, ◌||◌, List, [], ◌∷◌, map, refl, ap, arith, ⊎_elim}
 use Rattle.std.specs.List.{AllByRecursion, range_with_len}
 use Rattle.std.proofs.lemmas.Bool.{cases_Bool, cases_lt}
 use Rattle.vm_isa.specs.declared.record.StepRecord.{StepRecord}
@@ -7,7 +7,7 @@ use Rattle.air_core.specs.Counts.{weight}
 use Rattle.air_core.specs.Laws.{Recorded}
 use Rattle.air_core.specs.ListLemmas.{all_weaker}
 use Rattle.air_core.specs.Sheet.{Sheet, OwnsSome, row_events}
-use Rattle.air_core.specs.System.{System, Part, is_owned, EachRow, rows_of, tables_for}
+use Rattle.air_core.specs.System.{Part, is_owned, EachRow, rows_of, tables_for}
 use Rattle.air_core.specs.ExtensionLaws.{PartFits, PartBuses, PartRows, OnOwnBus, OneOwner, SaysRecord}
 use Rattle.air_core.proofs.ExtensionLemmas.{no_first, no_second}
 use Rattle.acceptance.proofs.Row.{IsSilent}

@@ -1,21 +1,21 @@
 -- What the row of a record says of the execution bus and of the host's words.
-use Rattle.std.proofs.Common.{◌≡◌, ℕ, ◌+◌, ◌^◌, ◌<◌, ◌≤◌, true, false, nat_eq, List, [], ◌∷◌, ◌++◌, length, map, refl, sym, ap, ◌∙◌, subst, arith, inl, inr, Contains}
+use Rattle.std.proofs.Common.{◌≡◌, ℕ, ◌+◌, ◌^◌, ◌≤◌, true, false, nat_eq, List, [], ◌∷◌, ◌++◌, length, map, refl, sym, ap, ◌∙◌, subst, arith, inl, inr, Contains}
 use Rattle.std.specs.Prelude.{flat_map, slice_index_or}
 use Rattle.std.specs.List.{list_any}
 use Rattle.std.proofs.Math.Pow.{pow_mono}
 use Rattle.std.proofs.lemmas.Bool.{ne_eqb}
-use Rattle.vm_field.specs.Field.{modulus, field_add}
+use Rattle.vm_field.specs.Field.{field_add}
 use Rattle.vm_isa.specs.declared.access.TimedAccess.{TimedAccess}
 use Rattle.vm_isa.specs.declared.instr.VmInstr.{VmInstr}
 use Rattle.vm_isa.specs.declared.record.StepRecord.{StepRecord}
 use Rattle.vm_isa.specs.Instr.{InRange}
-use Rattle.vm_isa.specs.Means.{Meaning, Placed, Fillable, accessed_by, means_of, new_at, placed, placed_at, places_by, word_at}
+use Rattle.vm_isa.specs.Means.{Meaning, Placed, Fillable, accessed_by, placed, placed_at, places_by, word_at}
 use Rattle.vm_isa.specs.Slots.{slots_of}
 use Rattle.vm_isa.proofs.MeansLaws.{whole}
 use Rattle.vm_isa.proofs.NextLaws.{meant}
 use Rattle.air_core.specs.declared.event.Event.{Event}
 use Rattle.air_core.specs.declared.hint.HintWord.{HintWord}
-use Rattle.air_core.specs.Hint.{NoHint, IsHint, BeginsAt, Writes}
+use Rattle.air_core.specs.Hint.{NoHint, IsHint, Writes}
 use Rattle.air_core.specs.Laws.{Recorded, record_events}
 use Rattle.air_core.specs.Orders.{Member}
 use Rattle.air_core.specs.Sheet.{sent, received}

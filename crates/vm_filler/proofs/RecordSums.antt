@@ -18,7 +18,6 @@ use Rattle.air_core.proofs.BalanceLemmas.{total-cons, total-append}
 use Rattle.air_core.proofs.Totals.{same_tuple, total-on_bus, total_send-exchange, total_receive-exchange}
 use Rattle.exec_path.specs.Path.{Point}
 use Rattle.exec_path.specs.PathEvents.{point_tuple}
-use Rattle.offline_memory.specs.Memory.{Access}
 use Rattle.offline_memory.specs.MemoryEvents.{access_events}
 use Rattle.vm_executor.specs.Records.{Chained, point_after, access_of, accesses_of}
 

@@ -1,5 +1,5 @@
 -- A filled segment holds.
-use Rattle.std.proofs.Common.{◌≡◌, ℕ, ◌+◌, ◌*◌, ◌^◌, ◌<◌, ◌≤◌, List, [], ◌∷◌, ◌++◌, length, refl, sym, ap, ◌∙◌, subst, arith}
+use Rattle.std.proofs.Common.{◌≡◌, ℕ, ◌*◌, ◌^◌, ◌<◌, ◌≤◌, List, [], ◌∷◌, ◌++◌, length, refl, sym, subst, arith}
 use Rattle.std.specs.Prelude.{All, flat_map}
 use Rattle.std.specs.List.{AllByRecursion}
 use Rattle.std.proofs.Math.Pow.{pow_mono}
@@ -10,7 +10,6 @@ use Rattle.vm_trace.specs.declared.count.CountEntry.{CountEntry}
 use Rattle.vm_trace.specs.declared.page.Touched.{Touched}
 use Rattle.vm_trace.specs.Canonical.{IsDigest}
 use Rattle.vm_trace.specs.Contents.{Contents, rows_by_table}
-use Rattle.vm_trace.specs.File.{Segment}
 use Rattle.air_core.specs.declared.event.Event.{Event}
 use Rattle.air_core.specs.Balance.{Balanced}
 use Rattle.air_core.specs.ListLemmas.{all_weaker}
@@ -25,7 +24,7 @@ use Rattle.acceptance.specs.Events.{received_on, segment_events}
 use Rattle.acceptance.specs.Holds.{SegmentHolds}
 use Rattle.acceptance.proofs.EachRow.{each_with}
 use Rattle.vm_filler.specs.Laws.{FilledSegmentsHold}
-use Rattle.vm_filler.specs.Segment.{SegmentFilled, PagesOpened, IsFilledSegment, filled_segment}
+use Rattle.vm_filler.specs.Segment.{SegmentFilled, PagesOpened, filled_segment}
 use Rattle.vm_filler.specs.Tables.{AreFilledTables}
 use Rattle.vm_filler.specs.Uses.{uses_of, entries_of}
 use Rattle.vm_filler.proofs.Balance.{rows_good, segment_balances}

@@ -1,12 +1,10 @@
 -- The hints that filled rows spell are those that the records take.
-use Rattle.std.proofs.Common.{◌≡◌, ℕ, zero, suc, ◌+◌, ◌<◌, ◌≤◌, Bool, true, false, ◌&&◌, ◌||◌, nat_eq, List, [], ◌∷◌, ◌++◌, map, refl, sym, ap, ◌∙◌, subst, arith, ⊎_elim, inl, inr}
+use Rattle.std.proofs.Common.{◌≡◌, ℕ, zero, suc, ◌+◌, ◌≤◌, Bool, true, false, ◌&&◌, nat_eq, List, [], ◌∷◌, ◌++◌, map, refl, sym, ap, ◌∙◌, subst, arith, ⊎_elim, inl, inr}
 use Rattle.std.specs.Prelude.{flat_map, replicate, if◌then◌else◌}
 use Rattle.std.specs.List.{AllByRecursion}
 use Rattle.std.specs.Cmp.Lexicographic.{pointwise, same_text}
 use Rattle.std.proofs.lemmas.Bool.{cases_Bool, eqb-true, eq-eqb}
-use Rattle.std.proofs.lemmas.Grind.{flat_map-append}
 use Rattle.std.proofs.lemmas.List.{map-append, append-nil}
-use Rattle.vm_isa.specs.declared.instr.VmInstr.{VmInstr}
 use Rattle.vm_isa.specs.declared.record.StepRecord.{StepRecord}
 use Rattle.vm_isa.specs.Means.{Fillable}
 use Rattle.vm_isa.specs.Slots.{slots_of}
@@ -26,15 +24,14 @@ use Rattle.air_core.proofs.ExtensionLemmas.{no_first, no_second}
 use Rattle.exec_path.specs.Path.{Point}
 use Rattle.vm_executor.specs.Records.{Chained, start_at}
 use Rattle.acceptance.specs.Events.{said_by_rows}
-use Rattle.acceptance.specs.Spelled.{AreHints, HintEvent, hint_event, SegmentSpells}
+use Rattle.acceptance.specs.Spelled.{AreHints, HintEvent, hint_event}
 use Rattle.acceptance.proofs.Row.{IsSilent, silent_is_no_hint}
 use Rattle.vm_filler.specs.Hints.{hint_of, hints_of}
 use Rattle.vm_filler.specs.Laws.{FilledSegmentsSpell}
-use Rattle.vm_filler.specs.Segment.{IsFilledSegment}
 use Rattle.vm_filler.specs.Tables.{filled_rows, zero_row, IsFilledTable, AreFilledTables}
 use Rattle.vm_filler.proofs.Exchange.{weight_both}
 use Rattle.vm_filler.proofs.Lawful.{Lawful}
-use Rattle.vm_filler.proofs.Owners.{OneRow, Silent, others_silent, owner_says, second_owns}
+use Rattle.vm_filler.proofs.Owners.{others_silent, owner_says, second_owns}
 use Rattle.vm_filler.proofs.RecordHints.{hint_word, record_no_hint, record_hint}
 
 -- the words that a record takes, and those of them that the rows of a table spell

@@ -1,5 +1,5 @@
 -- What filled segments say. Each law is the contract of a function in src/laws.rt.
-use Rattle.std.specs.Prelude.{◌≡◌, ℕ, ◌*◌, ◌≤◌, List, length, map}
+use Rattle.std.specs.Prelude.{◌≡◌, ◌*◌, ◌≤◌, List, length, map}
 use Rattle.vm_isa.specs.declared.instr.VmInstr.{VmInstr}
 use Rattle.vm_isa.specs.declared.record.StepRecord.{StepRecord}
 use Rattle.vm_trace.specs.Canonical.{IsElement, IsCanonicalSegment, Shape, height_of}

@@ -3,3 +3,5 @@ pub mod Uses
 pub mod Segment
 pub mod Hints
 pub mod Laws
+pub mod Lookups
+pub mod Filling

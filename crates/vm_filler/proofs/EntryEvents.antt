@@ -1,12 +1,12 @@
 -- Entries receive rows as often as their counts say.
-use Rattle.std.proofs.Common.{◌≡◌, ℕ, zero, suc, ◌+◌, ◌<◌, ◌≤◌, Bool, true, false, cond, nat_eq, List, [], ◌∷◌, slice_index, Option, Some, None, refl, sym, ap, ◌∙◌, subst, arith, ⊎_elim}
+use Rattle.std.proofs.Common.{◌≡◌, ℕ, zero, suc, ◌+◌, ◌<◌, ◌≤◌, Bool, true, false, cond, nat_eq, List, [], ◌∷◌, slice_index, Option, Some, None, refl, sym, ap, ◌∙◌, arith, ⊎_elim}
 use Rattle.std.specs.Prelude.{flat_map}
 use Rattle.std.specs.List.{AllByRecursion}
 use Rattle.std.proofs.lemmas.Bool.{eqb-true, eq-eqb, ne_eqb, cases_lt}
 use Rattle.vm_trace.specs.declared.count.CountEntry.{CountEntry}
 use Rattle.air_core.specs.declared.event.Event.{Event}
 use Rattle.air_core.specs.declared.event.Side.TheVariants.{Send, Receive}
-use Rattle.air_core.specs.Balance.{is_at, amount_at, total}
+use Rattle.air_core.specs.Balance.{is_at, total}
 use Rattle.air_core.specs.Counts.{weight}
 use Rattle.air_core.specs.ListLemmas.{all_append}
 use Rattle.air_core.specs.Sheet.{received}
