@@ -4,6 +4,8 @@
 #[cfg(test)]
 mod records;
 #[cfg(test)]
+mod sample;
+#[cfg(test)]
 mod shown;
 #[cfg(test)]
 mod side_by_side;

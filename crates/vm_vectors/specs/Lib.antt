@@ -1,3 +1,4 @@
 pub mod Laws
 pub mod Makers
 pub mod ElfFile
+pub mod Sample

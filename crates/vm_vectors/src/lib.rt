@@ -5,14 +5,17 @@ ghost use Rattle.std.specs.Prelude.{◌≡◌, ◌-◌, ◌%◌, ◌≤◌, ◌<
 ghost use Rattle.rv_decode.specs.Bits.{bits, opcode_of, rd_of, funct3_of, rs1_of, rs2_of, funct7_of, i_immediate, s_immediate, b_immediate, u_immediate, j_immediate};
 ghost use Rattle.vm_vectors.specs.Makers.{IsSignExtended, IsEvenSignExtended, DecodesByR, DecodesByI, DecodesByS, DecodesByB, DecodesByU, DecodesByJ};
 
+mod assembly;
 mod elf;
 #[cfg(test)]
 mod elf_tests;
 pub mod laws;
+mod sample;
 #[cfg(test)]
 mod tests;
 
 pub use elf::{LINKED_ELF, SHA_ELF, elf_of, text_is_words};
+pub use sample::sample_words;
 
 /// The word of the R format with these fields.
 #[tactic(auto, using(crate::proofs::MakerLemmas::decodes_by_r))]

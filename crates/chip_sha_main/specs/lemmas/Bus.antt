@@ -1,17 +1,17 @@
 -- What a row says on the bus of rounds.
-use Rattle.std.proofs.Common.{◌≡◌, ◌≢◌, ℕ, ◌+◌, ◌<◌, ◌≤◌, true, List, [], ◌∷◌, ◌++◌, flat_map, refl, sym, subst, ◌∙◌, arith, lit<, inl}
+use Rattle.std.proofs.Common.{◌≡◌, ◌≢◌, ℕ, ◌<◌, true, List, [], ◌∷◌, ◌++◌, flat_map, refl, sym, subst, arith, lit<, inl}
 use Rattle.std.specs.List.{AllByRecursion}
 use Rattle.vm_field.specs.Limbs.{list_of}
 use Rattle.sha_words.specs.Sha256.{schedule}
 use Rattle.air_core.specs.declared.event.Event.{Event}
 use Rattle.air_core.specs.declared.event.Side.{Side}
-use Rattle.air_core.specs.declared.event.Side.TheVariants.{Send, Receive}
+use Rattle.air_core.specs.declared.event.Side.TheVariants.{Receive}
 use Rattle.air_core.specs.Balance.{total, amount_at, is_at}
 use Rattle.air_core.specs.ListLemmas.{all_append, all_counted_some, all_weaker}
 use Rattle.air_core.specs.PartLemmas.{total_elsewhere}
 use Rattle.air_core.specs.Path.{path_lines}
 use Rattle.air_core.specs.Ring.{field}
-use Rattle.air_core.specs.Sheet.{counted, event, sent, received}
+use Rattle.air_core.specs.Sheet.{counted, sent, received}
 use Rattle.air_core.proofs.BalanceLemmas.{total-cons, total-append, total-counted, test_of_there}
 use Rattle.air_core.proofs.Chain.{Linked}
 use Rattle.gadget_limbs.specs.Ranges.{range_lines}
@@ -19,7 +19,7 @@ use Rattle.gadget_bits.specs.Stage.{halves_cells}
 use Rattle.gadget_time.specs.declared.touch.Touch.{Touch}
 use Rattle.gadget_time.specs.Form.{Columns, told_by}
 use Rattle.gadget_time.specs.Told.{Told, told_front, told_lines, touch_lines, touches_lines}
-use Rattle.chip_sha_main.specs.Main.{MainRow, main_of, main_row, main_ranges, chain_lines, start_words, end_words}
+use Rattle.chip_sha_main.specs.Main.{MainRow, main_of, main_ranges, chain_lines, start_words, end_words}
 use Rattle.chip_sha_main.specs.Sheet.{main_form}
 use Rattle.chip_sha_main.specs.lemmas.RoundLinks.{IsStage, off_link, received_link}
 

@@ -18,7 +18,6 @@ use Rattle.air_core.specs.Sheet.{AllZero}
 use Rattle.air_core.specs.Lookups.{GoodEvent}
 use Rattle.air_core.specs.ListLemmas.{all_append}
 use Rattle.air_core.specs.PathLaws.{good_free}
-use Rattle.air_core.proofs.LookupLemmas.{good_range}
 use Rattle.gadget_time.specs.Told.{MadeByAll}
 use Rattle.gadget_bits.specs.declared.halves.Halves.{Halves}
 use Rattle.gadget_bits.specs.Bits.{HalvesOf, halves_filled}

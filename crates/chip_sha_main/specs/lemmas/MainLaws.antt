@@ -1,10 +1,9 @@
 -- The laws of the form.
-use Rattle.std.proofs.Common.{◌≡◌, ◌≢◌, ℕ, zero, suc, ◌+◌, ◌*◌, ◌^◌, ◌<◌, ◌≤◌, Bool, true, false, ◌||◌, nat_eq, List, [], ◌∷◌, ◌++◌, flat_map, length, map, replicate, slice_index, refl, sym, ap, subst, ◌∙◌, arith, lit<, lit≤, length-append}
-use Rattle.std.specs.List.{AllByRecursion, list_any}
+use Rattle.std.proofs.Common.{◌≡◌, ◌≢◌, ℕ, zero, suc, ◌+◌, ◌*◌, ◌≤◌, Bool, true, false, ◌||◌, nat_eq, List, [], ◌∷◌, ◌++◌, flat_map, length, map, slice_index, refl, sym, ap, subst, ◌∙◌, arith, lit<, lit≤, length-append}
+use Rattle.std.specs.List.{AllByRecursion}
 use Rattle.std.proofs.lemmas.Bool.{eqb-true}
-use Rattle.vm_field.specs.Field.{modulus, field_add}
 use Rattle.vm_field.specs.declared.limbs.Limbs.{Limbs}
-use Rattle.vm_field.specs.Limbs.{limbs_by, list_of}
+use Rattle.vm_field.specs.Limbs.{list_of}
 use Rattle.vm_isa.specs.declared.record.StepRecord.{StepRecord}
 use Rattle.vm_isa.specs.declared.access.TimedAccess.{TimedAccess}
 use Rattle.vm_isa.specs.Instr.{numbers_of}
@@ -21,7 +20,6 @@ use Rattle.air_core.specs.Sheet.{AllZero, AllBelow, event}
 use Rattle.gadget_limbs.specs.Ranges.{range_lines}
 use Rattle.gadget_limbs.proofs.RangeLaws.{ranges_count, ranges_silent}
 use Rattle.gadget_limbs.proofs.RangesSplit.{length-ranges}
-use Rattle.gadget_time.specs.declared.touch.Touch.{Touch}
 use Rattle.gadget_time.specs.declared.touch.Gap.{Gap}
 use Rattle.gadget_time.specs.Form.{Columns, filled_columns, no_columns, owns_of}
 use Rattle.gadget_time.specs.FormLaws.{FormBounds, FormHolds, FormLaws, InstructionAt, IsAt, IsOther, NoHints, Tells, TellsDone}
@@ -210,11 +208,14 @@ module _ (hi : ℕ) (top : hi ≤ 13) (done : StepRecord) (f : Fillable (16 + hi
         accesses = made_somes done.accesses;
       }
 
+pub stands_alone : false ≡ true → ⊥
+stands_alone h = cc
+
 abbrev pub main_laws : FormLaws main_form
 main_laws = record {
   bounds = main_bounds;
   tells = main_tells;
-  means = λ alone k c at holds i bytes. absurd (cc);
+  means = λ alone k c at holds i bytes. absurd (stands_alone alone);
   fills = λ hi done top f owned. tells_done hi top done f (op_is done.instr.op owned);
 }
 

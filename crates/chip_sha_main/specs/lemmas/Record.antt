@@ -1,5 +1,5 @@
 -- From a record to its row: the parts that the laws of filled columns ask for.
-use Rattle.std.proofs.Common.{◌≡◌, ◌≢◌, ℕ, zero, suc, ◌+◌, ◌-◌, ◌^◌, ◌<◌, ◌≤◌, List, [], ◌∷◌, ◌++◌, length, map, take, drop, slice_index, refl, sym, ap, subst, ◌∙◌, arith, lit<, lit≤, mod-lt, pow_pos}
+use Rattle.std.proofs.Common.{◌≡◌, ℕ, ◌+◌, ◌-◌, ◌^◌, ◌<◌, ◌≤◌, List, [], ◌∷◌, ◌++◌, length, map, take, drop, slice_index, refl, sym, ap, subst, ◌∙◌, arith, lit≤, mod-lt, pow_pos}
 use Rattle.std.specs.List.{AllByRecursion, range_with_len, slice_index_or}
 use Rattle.std.proofs.lemmas.List.{length-map, map-append}
 use Rattle.std.proofs.Math.Seq.{take-length}
@@ -10,7 +10,7 @@ use Rattle.vm_isa.specs.declared.access.TimedAccess.{TimedAccess}
 use Rattle.vm_isa.specs.declared.record.StepRecord.{StepRecord}
 use Rattle.vm_isa.specs.Means.{compressed, new_at, word_at, Fillable}
 use Rattle.vm_isa.proofs.ShaShape.{all_range}
-use Rattle.sha_words.specs.Sha256.{schedule, sums_of}
+use Rattle.sha_words.specs.Sha256.{sums_of}
 use Rattle.sha_words.proofs.RoundLemmas.{compress-rounds, length-rounds, rounds-lt}
 use Rattle.sha_words.proofs.ScheduleLemmas.{schedule-lt}
 use Rattle.air_core.specs.ListLemmas.{all_left, all_right}

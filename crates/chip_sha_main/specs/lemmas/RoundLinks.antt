@@ -12,7 +12,6 @@ use Rattle.air_core.specs.Lookups.{Good}
 use Rattle.air_core.specs.ListLemmas.{all_append, all_counted_some}
 use Rattle.air_core.proofs.BalanceLemmas.{total-cons, total-append, total-counted, test_of_there}
 use Rattle.gadget_bits.specs.declared.halves.Halves.{Halves}
-use Rattle.gadget_bits.specs.Bits.{HalvesOf}
 use Rattle.gadget_bits.specs.Sum.{AllHalves, sum_lines}
 use Rattle.air_core.specs.Ring.{field}
 use Rattle.gadget_bits.specs.Stage.{halves_cells, stage_tuple}

@@ -1,5 +1,5 @@
 -- What filled rows send and receive on the bus: row t takes stage t and gives stage t + 1.
-use Rattle.std.proofs.Common.{◌≡◌, ◌≢◌, ℕ, zero, suc, ◌+◌, ◌/◌, ◌%◌, ◌^◌, ◌<◌, ◌≤◌, List, [], ◌∷◌, ◌++◌, flat_map, map, slice_index, refl, sym, ap, ◌∙◌, arith, add-zero}
+use Rattle.std.proofs.Common.{◌≡◌, ◌≢◌, ℕ, zero, suc, ◌+◌, ◌^◌, ◌<◌, ◌≤◌, List, [], ◌∷◌, ◌++◌, flat_map, map, slice_index, refl, sym, ap, ◌∙◌, arith, add-zero}
 use Rattle.std.specs.List.{AllByRecursion, range_with_len}
 use Rattle.vm_field.specs.Field.{field_add}
 use Rattle.sha_words.specs.Sha256.{round, round_constant, rounds, schedule}
@@ -14,12 +14,11 @@ use Rattle.air_core.specs.PartLemmas.{total_elsewhere}
 use Rattle.air_core.proofs.BalanceLemmas.{total-append, total-counted}
 use Rattle.air_core.proofs.Totals.{same_tuple, total_send-exchange, total_receive-exchange}
 use Rattle.gadget_bits.specs.declared.halves.Halves.{Halves}
-use Rattle.gadget_bits.specs.Bits.{HalvesOf}
-use Rattle.gadget_bits.specs.Sum.{AllHalves, sum_lines}
+use Rattle.gadget_bits.specs.Sum.{sum_lines}
 use Rattle.air_core.specs.Ring.{field}
-use Rattle.gadget_bits.specs.Stage.{halves_cells, stage_tuple}
+use Rattle.gadget_bits.specs.Stage.{stage_tuple}
 use Rattle.chip_sha_round.specs.Round.{RoundRow, round_row, before_of, after_of, sums_lines, stage_lines, round_lines, a_words, e_words, w_words}
-use Rattle.chip_sha_round.specs.Sheet.{round_filled, row_of_round, row_at}
+use Rattle.chip_sha_round.specs.Sheet.{round_filled, row_at}
 use Rattle.gadget_bits.proofs.StageLaws.{cells_are, number_cells, stage_numbers}
 use Rattle.chip_sha_round.specs.lemmas.RoundTable.{are_words}
 use Rattle.chip_sha_main.specs.lemmas.RoundLinks.{round_events}

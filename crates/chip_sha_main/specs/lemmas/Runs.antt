@@ -6,7 +6,7 @@ use Rattle.vm_field.specs.declared.limbs.Limbs.{Limbs}
 use Rattle.vm_field.specs.Limbs.{list_of}
 use Rattle.vm_word.specs.Arithmetic.{word_sum}
 use Rattle.vm_isa.specs.Words.{IsBytes}
-use Rattle.vm_isa.specs.Means.{Accessed, accessed_by, memory, memory_from}
+use Rattle.vm_isa.specs.Means.{Accessed, accessed_by, memory}
 use Rattle.air_core.specs.Step.{Touched, Rising, NewBytes, accessed}
 use Rattle.gadget_time.specs.declared.touch.Touch.{Touch}
 use Rattle.gadget_time.specs.declared.touch.Gap.{Gap}

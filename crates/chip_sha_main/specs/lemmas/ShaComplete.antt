@@ -1,5 +1,5 @@
 -- Law Complete: a record of a SHA block fills a row of steps and 64 rows of rounds, which balance.
-use Rattle.std.proofs.Common.{◌≡◌, ℕ, zero, suc, ◌+◌, ◌*◌, ◌<◌, ◌≤◌, Bool, true, false, ◌||◌, if◌then◌else◌, nat_eq, List, [], ◌∷◌, ◌++◌, flat_map, length, map, refl, sym, ap, subst, arith, lit<, lit≤, length-append, slice_index}
+use Rattle.std.proofs.Common.{◌≡◌, ℕ, zero, suc, ◌+◌, ◌*◌, ◌≤◌, Bool, true, false, ◌||◌, if◌then◌else◌, nat_eq, List, [], ◌∷◌, ◌++◌, flat_map, length, map, refl, sym, subst, arith, lit<, lit≤, length-append, slice_index}
 use Rattle.std.specs.Prelude.{sum_by}
 use Rattle.std.specs.List.{AllByRecursion, range_with_len}
 use Rattle.std.proofs.lemmas.Bool.{eqb-true}
@@ -7,13 +7,12 @@ use Rattle.std.proofs.lemmas.List.Sums.{sum_by-append, sum_by-cons}
 use Rattle.vm_isa.specs.declared.record.StepRecord.{StepRecord}
 use Rattle.vm_isa.specs.Means.{Fillable}
 use Rattle.vm_isa.proofs.ShaShape.{all_range}
-use Rattle.sha_words.specs.Sha256.{schedule}
 use Rattle.air_core.specs.declared.event.Event.{Event}
 use Rattle.air_core.specs.declared.event.Side.TheVariants.{Send, Receive}
 use Rattle.air_core.specs.Balance.{BalancedOn, total}
 use Rattle.air_core.specs.ExtensionLaws.{ExtensionComplete, RecordRows, SaysRecord, lookup_count}
 use Rattle.air_core.specs.Laws.{Filled, is_lookup}
-use Rattle.air_core.specs.ListLemmas.{all_append, all_weaker}
+use Rattle.air_core.specs.ListLemmas.{all_append}
 use Rattle.air_core.specs.Sheet.{row_events}
 use Rattle.air_core.specs.System.{GoodRow, tables_for}
 use Rattle.air_core.proofs.BalanceLemmas.{total-append}

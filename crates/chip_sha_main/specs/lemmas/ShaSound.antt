@@ -1,10 +1,8 @@
 -- Law Sound: what a step writes is the compressed state, by the balance of bus 6.
-use Rattle.std.proofs.Common.{◌≡◌, ◌≢◌, ℕ, zero, suc, ◌+◌, ◌<◌, ◌≤◌, ◌⊎◌, false, true, List, [], ◌∷◌, ◌++◌, flat_map, map, slice_index, refl, sym, ap, ◌∙◌, subst, inl, inr, arith, lit≤}
+use Rattle.std.proofs.Common.{◌≡◌, ◌≢◌, ℕ, zero, suc, ◌<◌, ◌≤◌, ◌⊎◌, false, true, List, [], ◌∷◌, ◌++◌, flat_map, map, slice_index, refl, sym, ap, ◌∙◌, subst, inl, inr, arith, lit≤}
 use Rattle.std.specs.List.{AllByRecursion}
-use Rattle.sha_words.specs.Sha256.{compress, rounds, schedule, sums_of}
+use Rattle.sha_words.specs.Sha256.{rounds, schedule, sums_of}
 use Rattle.sha_words.proofs.RoundLemmas.{compress-rounds}
-use Rattle.vm_isa.specs.Instr.{numbers_of}
-use Rattle.vm_isa.specs.Words.{IsBytes}
 use Rattle.air_core.specs.declared.event.Event.{Event}
 use Rattle.air_core.specs.declared.event.Side.TheVariants.{Send, Receive}
 use Rattle.air_core.specs.Balance.{total}
@@ -20,10 +18,10 @@ use Rattle.air_core.proofs.Chain.{Linked, received_has}
 use Rattle.air_core.proofs.Only.{OnlyAt, only, times_on_bus}
 use Rattle.gadget_bits.proofs.StageLaws.{halves_moved}
 use Rattle.gadget_bits.specs.Stage.{halves_cells}
-use Rattle.gadget_time.specs.Form.{Columns, columns}
+use Rattle.gadget_time.specs.Form.{columns}
 use Rattle.gadget_time.specs.lemmas.FormSound.{IsValid, RowMeans, form_row, sound_step}
 use Rattle.chip_sha_round.specs.Sheet.{round_sheet}
-use Rattle.chip_sha_main.specs.Main.{MainRow, Long, main_of, main_row, start_words, end_words}
+use Rattle.chip_sha_main.specs.Main.{MainRow, main_of, main_row, start_words, end_words}
 use Rattle.chip_sha_main.specs.Laws.{BlocksAreCompressed, IsCompressed}
 use Rattle.chip_sha_main.specs.Sha.{sha}
 use Rattle.chip_sha_main.specs.Sheet.{main_form, main_sheet}
@@ -31,7 +29,7 @@ use Rattle.chip_sha_main.specs.lemmas.Bus.{row_links, receives}
 use Rattle.chip_sha_main.specs.lemmas.MainLaws.{long, main_laws}
 use Rattle.chip_sha_main.specs.lemmas.Numbers.{word, AllBytes, schedule_of, block_of, start_is, end_gives}
 use Rattle.chip_sha_main.specs.lemmas.RoundLinks.{IsStage, RoundGood, round_events, round_links}
-use Rattle.chip_sha_main.specs.lemmas.Steps.{main_accesses, main_ranges_good, is_main, old_bytes, OldBytes, compressed_new, row_means}
+use Rattle.chip_sha_main.specs.lemmas.Steps.{main_ranges_good, is_main, old_bytes, OldBytes, compressed_new, row_means}
 
 -- the old state and the block are bytes
 record BlockBytes (r : MainRow ℕ) : Type 0 where

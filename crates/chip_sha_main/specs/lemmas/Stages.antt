@@ -1,11 +1,10 @@
 -- The stages of a record's row: it sends the one before the first round, and receives the one behind the last.
-use Rattle.std.proofs.Common.{◌≡◌, ℕ, ◌+◌, ◌<◌, ◌≤◌, List, [], ◌∷◌, ◌++◌, length, map, slice_index, refl, sym, ap, ◌∙◌, arith}
+use Rattle.std.proofs.Common.{◌≡◌, ℕ, ◌+◌, ◌≤◌, List, [], ◌∷◌, ◌++◌, map, refl, sym, ap, ◌∙◌}
 use Rattle.std.specs.List.{concat}
 use Rattle.vm_word.specs.Word.{word_of_limbs}
 use Rattle.sha_words.specs.Sha256.{rounds, schedule}
 use Rattle.vm_isa.specs.declared.record.StepRecord.{StepRecord}
 use Rattle.vm_isa.specs.Means.{Fillable}
-use Rattle.air_core.specs.declared.event.Event.{Event}
 use Rattle.air_core.specs.declared.event.Side.TheVariants.{Send, Receive}
 use Rattle.air_core.specs.Balance.{total}
 use Rattle.air_core.specs.Ring.{field}

@@ -2,13 +2,13 @@
 use Rattle.std.proofs.Common.{◌≡◌, ◌≢◌, ℕ, ◌+◌, ◌*◌, ◌^◌, ◌<◌, ◌≤◌, List, [], ◌∷◌, ◌++◌, map, flat_map, slice_index, Some, refl, sym, ap, ◌∙◌, arith, lit<, lit≤, append-nil}
 use Rattle.std.specs.List.{AllByRecursion}
 use Rattle.std.proofs.lemmas.List.{map-append}
-use Rattle.vm_field.specs.Field.{modulus, field_add, field_mul}
+use Rattle.vm_field.specs.Field.{field_add, field_mul}
 use Rattle.vm_field.specs.declared.limbs.Limbs.{Limbs}
 use Rattle.vm_field.specs.Limbs.{list_of}
 use Rattle.vm_word.specs.Arithmetic.{word_sum}
 use Rattle.vm_isa.specs.Words.{IsBytes}
 use Rattle.vm_isa.specs.declared.instr.VmInstr.{VmInstr}
-use Rattle.vm_isa.specs.Instr.{InRange, IsInstruction, numbers_of}
+use Rattle.vm_isa.specs.Instr.{InRange, numbers_of}
 use Rattle.vm_isa.specs.Means.{accessed_by, compressed, means_of, memory_from, new_at, sha_places, word_at}
 use Rattle.sha_words.specs.Sha256.{rounds, sums_of}
 use Rattle.sha_words.proofs.RoundLemmas.{compress-rounds}

@@ -1,4 +1,4 @@
-use Rattle.std.proofs.Common.{◌≡◌, ℕ, ◌+◌, ◌*◌, ◌<◌, ◌++◌, length, map, take, sym, ap, subst, ◌∙◌, arith, slice_index, length-set, append-nil}
+use Rattle.std.proofs.Common.{◌≡◌, ℕ, ◌+◌, ◌++◌, map, take, ap, subst, ◌∙◌, arith, slice_index, length-set}
 use Rattle.std.specs.List.{range_with_len}
 use Rattle.chip_sha_main.proofs.Loops.{touch_of, run_more, run_is}
 use Rattle.chip_sha_main.proofs.accesses.put_run.Goals as goal

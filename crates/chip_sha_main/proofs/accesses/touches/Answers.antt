@@ -1,10 +1,9 @@
-use Rattle.std.proofs.Common.{◌≡◌, ℕ, ◌+◌, ◌*◌, List, [], ◌∷◌, ◌++◌, length, take, refl, sym, ap, subst, ◌∙◌, arith, slice_index}
+use Rattle.std.proofs.Common.{◌≡◌, ℕ, ◌∷◌, ◌++◌, take, sym, ap, ◌∙◌, arith, slice_index}
 use Rattle.std.proofs.Math.Seq.{take-length}
 use Rattle.std.proofs.lemmas.Grind.{get_or_default_zero}
 use Rattle.vm_field.specs.Limbs.{limbs_at, limbs_by}
 use Rattle.air_core.specs.Ring.{field}
-use Rattle.gadget_time.specs.declared.touch.Touch.{Touch}
-use Rattle.gadget_time.specs.Access.{gap_by, register_touch}
+use Rattle.gadget_time.specs.Access.{register_touch}
 use Rattle.chip_sha_main.specs.Main.{main_row, main_touches, run_touches, word_field, words_by, gaps_by}
 use Rattle.chip_sha_main.proofs.accesses.touches.Goals as goal
 

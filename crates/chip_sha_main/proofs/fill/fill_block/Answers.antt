@@ -1,10 +1,9 @@
-use Rattle.std.proofs.Common.{◌≡◌, ℕ, ◌+◌, ◌*◌, ◌≤◌, List, [], ◌∷◌, ◌++◌, flat_map, get_or, length, map, take, drop, refl, sym, ap, subst, ◌∙◌, arith, slice_index, append_assoc, append-nil, lit≤}
+use Rattle.std.proofs.Common.{◌≡◌, ℕ, ◌+◌, ◌*◌, List, [], ◌∷◌, ◌++◌, flat_map, length, map, take, drop, refl, sym, ap, ◌∙◌, arith, slice_index, append_assoc, append-nil, lit≤}
 use Rattle.std.specs.List.{range_with_len, slice_index_or}
 use Rattle.std.proofs.Math.Seq.{take-length}
 use Rattle.std.proofs.lemmas.List.{length-drop, length-map, length-take-le}
 use Rattle.vm_field.specs.Limbs.{limbs_from, list_of}
 use Rattle.vm_word.specs.Word.{limbs_of, word_of_limbs}
-use Rattle.vm_isa.specs.declared.access.TimedAccess.{TimedAccess}
 use Rattle.sha_words.specs.Sha256.{compress, rounds, schedule, sums_of}
 use Rattle.sha_words.proofs.RoundLemmas.{compress-rounds, length-rounds}
 use Rattle.sha_words.proofs.ScheduleLemmas.{length-schedule}

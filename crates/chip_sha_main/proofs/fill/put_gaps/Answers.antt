@@ -1,10 +1,9 @@
-use Rattle.std.proofs.Common.{◌≡◌, ℕ, ◌+◌, ◌*◌, ◌<◌, ◌≤◌, List, [], ◌∷◌, ◌++◌, flat_map, get_or, length, map, take, drop, refl, sym, ap, subst, ◌∙◌, arith, slice_index}
+use Rattle.std.proofs.Common.{◌≡◌, ℕ, ◌+◌, ◌*◌, List, [], ◌++◌, flat_map, get_or, take, drop, sym, ap, subst, ◌∙◌, arith}
 use Rattle.std.specs.List.{range_with_len}
-use Rattle.std.proofs.lemmas.List.{length-map}
 use Rattle.std.proofs.lemmas.List.Folds.{flat_map-map}
 use Rattle.gadget_time.specs.declared.touch.Gap.{Gap}
 use Rattle.gadget_time.specs.Access.{access_at, gap_cells, gap_of}
-use Rattle.chip_sha_main.proofs.Puts.{put_more, columns_by, columns_whole, access_is}
+use Rattle.chip_sha_main.proofs.Puts.{put_more, columns_by, access_is}
 use Rattle.chip_sha_main.proofs.fill.put_gaps.Goals as goal
 
 pub loop-i-preserved : goal.loop-i-preserved

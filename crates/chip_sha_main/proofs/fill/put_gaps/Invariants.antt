@@ -1,4 +1,4 @@
-use Rattle.std.proofs.Common.{◌≡◌, ◌+◌, ◌*◌, [], ◌∷◌, ◌++◌, flat_map, get_or, length, take, slice_index}
+use Rattle.std.proofs.Common.{◌≡◌, ◌+◌, ◌*◌, [], ◌++◌, flat_map, get_or, length, take}
 use Rattle.std.specs.List.{range_with_len}
 use Rattle.gadget_time.specs.Access.{access_at, gap_cells, gap_of}
 use Rattle.chip_sha_main.proofs.fill.put_gaps.Given as goal

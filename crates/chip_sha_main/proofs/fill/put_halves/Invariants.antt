@@ -1,4 +1,4 @@
-use Rattle.std.proofs.Common.{◌≡◌, ◌+◌, ◌*◌, [], ◌∷◌, ◌++◌, flat_map, get_or, length, take, slice_index}
+use Rattle.std.proofs.Common.{◌≡◌, ◌+◌, ◌*◌, ◌++◌, flat_map, get_or, length, take}
 use Rattle.std.specs.List.{range_with_len}
 use Rattle.gadget_bits.specs.Bits.{halves_filled}
 use Rattle.gadget_bits.specs.Stage.{cells_of}

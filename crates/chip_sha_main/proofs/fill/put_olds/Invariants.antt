@@ -1,4 +1,4 @@
-use Rattle.std.proofs.Common.{◌≡◌, ◌+◌, ◌*◌, [], ◌∷◌, ◌++◌, flat_map, get_or, length, take, slice_index}
+use Rattle.std.proofs.Common.{◌≡◌, ◌+◌, ◌*◌, [], ◌++◌, flat_map, get_or, length, take}
 use Rattle.std.specs.List.{range_with_len}
 use Rattle.vm_field.specs.Limbs.{limbs_from, list_of}
 use Rattle.gadget_bits.specs.Record.{olds_of}

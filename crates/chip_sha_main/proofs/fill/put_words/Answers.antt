@@ -1,11 +1,10 @@
-use Rattle.std.proofs.Common.{◌≡◌, ℕ, ◌+◌, ◌*◌, ◌<◌, ◌≤◌, List, [], ◌∷◌, ◌++◌, flat_map, get_or, length, map, take, drop, refl, sym, ap, subst, ◌∙◌, arith, slice_index}
+use Rattle.std.proofs.Common.{◌≡◌, ℕ, ◌+◌, ◌*◌, List, ◌++◌, flat_map, get_or, length, take, refl, sym, ap, subst, ◌∙◌, arith}
 use Rattle.std.specs.List.{range_with_len}
-use Rattle.std.proofs.lemmas.List.{length-map}
 use Rattle.std.proofs.lemmas.List.Folds.{flat_map-map}
 use Rattle.vm_field.specs.declared.limbs.Limbs.{Limbs}
 use Rattle.vm_field.specs.Limbs.{limbs_from, list_of}
 use Rattle.vm_word.specs.Word.{limbs_of}
-use Rattle.chip_sha_main.proofs.Puts.{put_more, columns_by, columns_whole, access_is}
+use Rattle.chip_sha_main.proofs.Puts.{put_more, columns_whole}
 use Rattle.chip_sha_main.proofs.fill.put_words.Goals as goal
 
 four : (w : Limbs ℕ) → length (list_of w) ≡ 4

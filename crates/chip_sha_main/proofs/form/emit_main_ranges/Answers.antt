@@ -1,4 +1,4 @@
-use Rattle.std.proofs.Common.{◌≡◌, ◌+◌, ◌≤◌, length, List, [], ◌∷◌, flat_map, take, drop, sym, ◌∙◌, arith, slice_index}
+use Rattle.std.proofs.Common.{◌≡◌, [], ◌∷◌, flat_map, take, drop, sym, ◌∙◌, arith, slice_index}
 use Rattle.std.proofs.lemmas.Grind.{get_or_default_zero}
 use Rattle.vm_field.specs.Limbs.{list_of}
 use Rattle.air_core.specs.Ring.{field}

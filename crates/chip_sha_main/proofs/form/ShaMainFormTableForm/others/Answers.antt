@@ -1,4 +1,4 @@
-use Rattle.std.proofs.Common.{◌≡◌, ◌+◌, ◌≤◌, ◌++◌, length, arith, slice_index, ◌∙◌}
+use Rattle.std.proofs.Common.{arith, slice_index}
 use Rattle.vm_field.specs.Limbs.{list_of}
 use Rattle.air_core.specs.Ring.{field}
 use Rattle.air_core.proofs.Counted.{on_err_anyway, on_err_map}
