@@ -13,3 +13,4 @@ pub mod TreePuts
 pub mod Making
 pub mod Writes
 pub mod Chapters
+pub mod WrittenLemmas

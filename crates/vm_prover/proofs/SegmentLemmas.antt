@@ -14,6 +14,7 @@ use Rattle.air_core.specs.ListLemmas.{all_append}
 use Rattle.air_core.specs.System.{System}
 use Rattle.exec_path.specs.Path.{Point}
 use Rattle.page_tree.specs.MapBlocks.{AreBlocksOf}
+use Rattle.page_tree.specs.Opening.{siblings_of}
 use Rattle.page_tree.specs.Parts.{labels_of, with_pages}
 use Rattle.page_tree.specs.Start.{start_map}
 use Rattle.page_tree.specs.Tree.{Leaves, root}
@@ -22,6 +23,7 @@ use Rattle.page_tree.proofs.StartLemmas.{length-start_map}
 use Rattle.vm_transpile.specs.Program.{program_of}
 use Rattle.vm_transpile.proofs.Ranges.{entry_low}
 use Rattle.vm_transpile.proofs.Texts.{program_rises}
+use Rattle.table_format.specs.Writing.{IsSegmentOf}
 use Rattle.vm_executor.specs.Machine.{Machine}
 use Rattle.vm_executor.specs.Pages.{AreTouched}
 use Rattle.vm_executor.specs.Runs.{Ran, starting}
@@ -35,7 +37,8 @@ use Rattle.acceptance.proofs.Whole.{before_joined}
 use Rattle.vm_filler.specs.Hints.{hints_of}
 use Rattle.vm_filler.specs.Laws.{FilledSegmentsHold, FilledSegmentsAreCanonical, FilledSegmentsCountRecords, FilledSegmentsSpell}
 use Rattle.vm_filler.specs.Segment.{SegmentFilled, IsFilledSegment}
-use Rattle.vm_prover.specs.Laws.{NoSegmentsStand, SegmentsGoOn}
+use Rattle.vm_prover.specs.Laws.{NoSegmentsStand, SegmentsAreMade, SegmentsGoOn}
+use Rattle.vm_prover.specs.Written.{connector_of}
 use Rattle.vm_prover.specs.Progress.{CanProve, UnderWay, Progress, FitsVersion, segment_from}
 use Rattle.vm_prover.proofs.ChainLemmas.{linked_more, last_pc_more, last_root_more, last_pc_low, ends_more, rows_more, sum_more, spell_more}
 use Rattle.vm_prover.proofs.LeafLemmas.{rising, machine, leaves_match, leaves_after, leaves_long}
@@ -58,7 +61,7 @@ no_segments x version image hints can = record {
   whole = length-start_map image;
 }
 
-module _ (x : System) (hold : FilledSegmentsHold x) (canonical : FilledSegmentsAreCanonical x) (count : FilledSegmentsCountRecords x) (spell : FilledSegmentsSpell x) (version : ℕ) (image : Loaded) (hints : Hints) (segments : List Segment) (lengths : List ℕ) (from m : Machine) (leaves : Leaves)
+module _ (x : System) (canonical : FilledSegmentsAreCanonical x) (version : ℕ) (image : Loaded) (hints : Hints) (segments : List Segment) (lengths : List ℕ) (from m : Machine) (leaves : Leaves)
     (done : List StepRecord) (c : Contents) (ends : Bool) (pages : List Touched) (can : CanProve x version image hints) (p : Progress x version image hints false segments lengths from leaves) (u : UnderWay x image hints from (sum lengths) done m)
     (fits : FitsVersion version (length done)) (filled : SegmentFilled x (program_of image) done c) (touched : AreTouched m.start m.now m.times pages) where
   s : Segment
@@ -93,9 +96,30 @@ module _ (x : System) (hold : FilledSegmentsHold x) (canonical : FilledSegmentsA
   unfolding s
   is_canonical = canonical (limits_of version) (program_of image) done s (program_rises image) is_filled begins_low fits.rows
 
-  pub one_more : Progress x version image hints ends (segments ++ segment_from from done c ends leaves pages ∷ []) (lengths ++ length done ∷ []) m (with_pages leaves pages)
+  pub is_made : IsSegmentOf version (connector_of from m ends) (root leaves) (root (with_pages leaves pages)) c pages (siblings_of leaves (labels_of pages)) (segment_from from done c ends leaves pages)
   unfolding s
-  one_more = record {
+  is_made = (
+    record {
+      pc_start = refl;
+      pc_end = ap (λ (q : Point). q.pc) u.since.reached;
+      end_time = ap (λ (q : Point). q.time) u.since.reached;
+      ends = refl;
+      start_root = refl;
+      end_root = refl;
+      rows = refl;
+      program = refl;
+      xor = refl;
+      range = refl;
+      constants = refl;
+      pages = refl;
+      siblings = refl;
+    },
+    (shape_of x image, is_canonical),
+  )
+
+  pub one_more : FilledSegmentsHold x → FilledSegmentsCountRecords x → FilledSegmentsSpell x → Progress x version image hints ends (segments ++ segment_from from done c ends leaves pages ∷ []) (lengths ++ length done ∷ []) m (with_pages leaves pages)
+  unfolding s
+  one_more hold count spell = record {
     canonical = all_append (IsCanonicalSegment (limits_of version) (shape_of x image)) segments (s ∷ []) p.canonical (is_canonical, tt);
     hold = all_append (SegmentHolds x (program_of image)) segments (s ∷ []) p.hold (hold (program_of image) done s (program_rises image) is_filled, tt);
     linked = linked_more image.entry (root (start_map image)) segments s p.linked (sym p.pc_is) (sym p.root_is);
@@ -114,4 +138,7 @@ module _ (x : System) (hold : FilledSegmentsHold x) (canonical : FilledSegmentsA
 
 pub segments_go_on : (x : System) → FilledSegmentsHold x → FilledSegmentsAreCanonical x → FilledSegmentsCountRecords x → FilledSegmentsSpell x → SegmentsGoOn x
 segments_go_on x hold canonical count spell version image hints segments lengths from m leaves done c ends pages can p u fits filled touched =
-    one_more x hold canonical count spell version image hints segments lengths from m leaves done c ends pages can p u fits filled touched
+    one_more x canonical version image hints segments lengths from m leaves done c ends pages can p u fits filled touched hold count spell
+
+pub segments_are_made : (x : System) → FilledSegmentsAreCanonical x → SegmentsAreMade x
+segments_are_made x canonical version image hints segments lengths from m leaves done c ends pages can p u fits filled touched = is_made x canonical version image hints segments lengths from m leaves done c ends pages can p u fits filled touched

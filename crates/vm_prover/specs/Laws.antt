@@ -13,9 +13,10 @@ use Rattle.vm_trace.specs.Contents.{Contents}
 use Rattle.vm_trace.specs.File.{Segment}
 use Rattle.air_core.specs.System.{System, is_owned}
 use Rattle.page_tree.specs.Kept.{put_at}
+use Rattle.page_tree.specs.Opening.{siblings_of}
 use Rattle.page_tree.specs.Parts.{labels_of, with_pages}
 use Rattle.page_tree.specs.Start.{start_map}
-use Rattle.page_tree.specs.Tree.{Leaves}
+use Rattle.page_tree.specs.Tree.{Leaves, root}
 use Rattle.vm_transpile.specs.Program.{program_of}
 use Rattle.vm_executor.specs.declared.machine.Machined.{Machined}
 use Rattle.vm_executor.specs.declared.machine.Machined.TheVariants.{Ended}
@@ -25,6 +26,8 @@ use Rattle.vm_executor.specs.Records.{AreRecords}
 use Rattle.vm_executor.specs.Runs.{IsWent, Ran, starting}
 use Rattle.vm_executor.specs.State.{IsStep}
 use Rattle.vm_filler.specs.Segment.{SegmentFilled}
+use Rattle.table_format.specs.Writing.{IsSegmentOf}
+use Rattle.vm_prover.specs.Written.{connector_of}
 use Rattle.vm_prover.specs.Progress.{CanProve, OwnsRows, UnderWay, Progress, FitsVersion, StatesRun, segment_from, file_of}
 
 -- tables for all opcodes of steps are tables for the rows of every program
@@ -57,6 +60,13 @@ SegmentsGoOn x = (version : ℕ) (image : Loaded) (hints : Hints) (segments : Li
     → CanProve x version image hints → Progress x version image hints false segments lengths from leaves → UnderWay x image hints from (sum lengths) done m → FitsVersion version (length done)
     → SegmentFilled x (program_of image) done c → AreTouched m.start m.now m.times pages
     → Progress x version image hints ends (segments ++ segment_from from done c ends leaves pages ∷ []) (lengths ++ length done ∷ []) m (with_pages leaves pages)
+
+-- It is made of what a prover hands to a writer.
+abbrev pub SegmentsAreMade : System → Type 0
+SegmentsAreMade x = (version : ℕ) (image : Loaded) (hints : Hints) (segments : List Segment) (lengths : List ℕ) (from m : Machine) (leaves : Leaves) (done : List StepRecord) (c : Contents) (ends : Bool) (pages : List Touched)
+    → CanProve x version image hints → Progress x version image hints false segments lengths from leaves → UnderWay x image hints from (sum lengths) done m → FitsVersion version (length done)
+    → SegmentFilled x (program_of image) done c → AreTouched m.start m.now m.times pages
+    → IsSegmentOf version (connector_of from m ends) (root leaves) (root (with_pages leaves pages)) c pages (siblings_of leaves (labels_of pages)) (segment_from from done c ends leaves pages)
 
 -- Where the first pages of a segment were put into a tree, the next one gives the leaves with one page more.
 abbrev pub PutsGoOn : Type 0

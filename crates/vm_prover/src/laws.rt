@@ -1,5 +1,5 @@
 //! What whole segments come to. Each function does nothing when it runs: its contract is the law.
-ghost use Rattle.vm_prover.specs.Laws.{AllOpcodesOwnRows, NoSegmentsStand, SegmentsComeUnderWay, RecordsGoOn, RecordsCanBeFilled, SegmentsGoOn, PutsGoOn, EachVersionTakes16384, EndedSegmentsProve, EndingRunsGoOn};
+ghost use Rattle.vm_prover.specs.Laws.{AllOpcodesOwnRows, NoSegmentsStand, SegmentsComeUnderWay, RecordsGoOn, RecordsCanBeFilled, SegmentsGoOn, SegmentsAreMade, PutsGoOn, EachVersionTakes16384, EndedSegmentsProve, EndingRunsGoOn};
 
 use air_core::Extension;
 use vm_filler::laws::{
@@ -31,6 +31,13 @@ pub fn segments_go_on<E: Extension>()
     filled_segments_hold::<E>();
     filled_segments_are_canonical::<E>();
     filled_segments_are_of_records::<E>();
+}
+
+/// It is made of the parts that a writer takes.
+pub fn segments_are_made<E: Extension>()
+    ensures { (ext : E) → SegmentsAreMade (E.system ext) }
+{
+    filled_segments_are_canonical::<E>();
 }
 
 /// Pages that are put one after the other give the leaves with all of them.

@@ -16,8 +16,8 @@ take_records-requires g c =
     let r = c.requires.ready in
     (g.E.Extension.system c.args.ext.now, (r.0, (_, ready_goes_on _ r.0 _ _ (machine_of c.args.machine.now) _ r.1.0 r.1.1.0 c.args.count c.requires.same r.1.1.1)))
 
-pub fill_segment-requires-clause-records : goal.fill_segment-requires-clause-records
-fill_segment-requires-clause-records g c =
+pub fill_segment-requires : goal.fill_segment-requires
+fill_segment-requires g c =
     let r = c.requires.ready in
     let here = ready_goes_on _ r.0 c.args.program.now _ (machine_of c.args.machine.now) _ r.1.0 r.1.1.0 c.args.count refl r.1.1.1 in
     let goes = ready_goes_on _ r.0 _ _ (machine_of c.args.machine.now) _ r.1.0 r.1.1.0 c.args.count c.requires.same r.1.1.1 in
