@@ -1,9 +1,10 @@
 -- A segment as it is made: its records, and what stands with it.
-use Rattle.std.specs.Prelude.{◌≡◌, ℕ, ◌+◌, ◌<◌, ◌≤◌, Bool, true, false, List, [], ◌∷◌, ◌++◌, flat_map, get_or, length, sum, None, IfSome, Result}
+use Rattle.std.specs.Prelude.{◌≡◌, ℕ, ◌+◌, ◌<◌, ◌≤◌, Bool, true, false, List, [], ◌∷◌, ◌++◌, flat_map, get_or, length, sum, None, IfSome, OnOk, Result}
 use Rattle.elf_image.specs.Loaded.{Loaded}
 use Rattle.rv_run.specs.Run.{Ends}
 use Rattle.vm_host.specs.declared.HostError.{HostError}
-use Rattle.vm_host.specs.Calls.{HasCause}
+use Rattle.vm_host.specs.declared.Place.TheVariants.{Out}
+use Rattle.vm_host.specs.Calls.{GrowsByPart, HasCause}
 use Rattle.vm_host.specs.State.{HostState, then_more}
 use Rattle.vm_isa.specs.declared.instr.VmInstr.{VmInstr}
 use Rattle.vm_isa.specs.declared.record.StepRecord.{StepRecord}
@@ -18,7 +19,9 @@ use Rattle.table_format.specs.declared.table_writer.TableWriter.{TableWriter}
 use Rattle.table_format.specs.Texts.{head_text, piece_text}
 use Rattle.table_format.specs.Writing.{IsMadeOf, IsSegmentOf}
 use Rattle.vm_prover.specs.Progress.{CanProve, Progress, UnderWay}
+use Rattle.vm_prover.specs.declared.plan.Ending.{Ending}
 use Rattle.vm_prover.specs.declared.segment.Parts.{Parts}
+use Rattle.vm_prover.specs.Proving.{SpellsRun}
 
 -- a run that ends and can be proved with an extension
 pub record Run (x : System) : Type 0 where
@@ -77,9 +80,9 @@ pub record IsWritten {x : System} (run : Run x) (ended : Bool) (lengths : List �
   pub creating : s.output.creating ≡ true
   pub writing : IsWriting run.version w
 
--- the lengths of segments of a whole run
-pub record IsPlan {x : System} (run : Run x) (lengths : List ℕ) : Type 0 where
-  pub all : sum lengths ≡ run.steps
+-- the lengths of segments of a whole run of so many steps
+pub record IsPlan (steps : ℕ) (lengths : List ℕ) : Type 0 where
+  pub all : sum lengths ≡ steps
   pub some : 1 ≤ length lengths
   pub few : length lengths ≤ 4096
   pub short : (k d : ℕ) → k < length lengths → get_or lengths k d ≤ 16384
@@ -87,8 +90,31 @@ pub record IsPlan {x : System} (run : Run x) (lengths : List ℕ) : Type 0 where
 -- nothing but the head is written, and segments of these lengths are to follow
 pub record IsToWrite {x : System} (run : Run x) (program : List VmInstr) (lengths : List ℕ) (m : Machine) (leaves : Leaves) (w : TableWriter) (s : HostState) : Type 0 where
   pub over : program ≡ program_of run.image
-  pub plan : IsPlan run lengths
+  pub plan : IsPlan run.steps lengths
   pub written : IsWritten run false [] m leaves w s
+
+-- The output stands open and has the head of the version that its writer writes.
+pub record IsBegun (w : TableWriter) (s : HostState) : Type 0 where
+  pub told : IfSome s.output.written (λ bytes. bytes ≡ head_text w.version)
+  pub creating : s.output.creating ≡ true
+  pub writing : IsWriting w.version w
+
+-- how a run ends, and its segments
+pub record IsEnding (image : Loaded) (hints : Hints) (ending : Ending) : Type 0 where
+  pub ends : Ends image hints ending.steps ending.code ending.public
+  pub plan : IsPlan ending.steps ending.lengths.items
+
+-- the whole file of the run was written, and its output closed
+pub record IsWhole (x : System) (version : ℕ) (image : Loaded) (hints : Hints) (ending : Ending) (s : HostState) : Type 0 where
+  pub closed : s.output.creating ≡ false
+  pub written : IfSome s.output.written (SpellsRun x version image hints ending.lengths.items ending.code ending.public)
+
+-- What writing a file does: it has a cause for failing, hands over the name, and changes nothing but the output.
+pub record WritesFile (x : System) (version : ℕ) (image : Loaded) (hints : Hints) (ending : Ending) (name : List ℕ) (s t : HostState) (result : Result (Unit {0}) HostError) : Type 0 where
+  pub cause : HasCause s.faults t.faults result
+  pub named : GrowsByPart s.named t.named ((Out, name) ∷ [])
+  pub frame : t ≡ record s { faults = t.faults; output = t.output; named = t.named; content = t.content }
+  pub whole : OnOk result (IsWhole x version image hints ending t × (t.named ≡ then_more s.named ((Out, name) ∷ [])))
 
 -- a call that goes on with an output: it writes, and may fail
 pub record GoesOnWriting {T : Type 0} (s t : HostState) (result : Result T HostError) : Type 0 where

@@ -29,7 +29,7 @@ pub record GoesPast (loaded : Loaded) (hints : List ℕ) (per_segment : ℕ) : T
   pub many : 4096 < length lengths
 
 abbrev pub IsSurvey : Loaded → List ℕ → ℕ → Surveyed → Type 0
-IsSurvey loaded hints per_segment (Ended code public steps lengths) = EndsCut loaded hints per_segment steps lengths.items code public
+IsSurvey loaded hints per_segment (Ended ending) = EndsCut loaded hints per_segment ending.steps ending.lengths.items ending.code ending.public
 IsSurvey loaded hints per_segment (Trapped trap) = TrapsCut loaded hints per_segment trap
 IsSurvey loaded hints per_segment TooManySegments = GoesPast loaded hints per_segment
 

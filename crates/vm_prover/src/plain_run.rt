@@ -5,6 +5,7 @@ ghost use Rattle.vm_prover.specs.Survey.{IsSurvey};
 
 use crate::OutOfMemory;
 use crate::cutting::Cutting;
+use crate::plan::Ending;
 use elf_image::Image;
 use rv_decode::Instr;
 use rv_run::{State, Stepped, Trap};
@@ -16,16 +17,7 @@ const MOST_SEGMENTS: usize = 4096;
 /// How a run ends, as far as a file can tell it.
 #[derive(Debug, Drop)]
 pub enum Surveyed {
-    /// It ends.
-    Ended {
-        /// The exit code.
-        code: u8,
-        /// The bytes that it makes public.
-        public: [u8; 64],
-        steps: u64,
-        /// How many steps each segment has.
-        lengths: Vec<u32>,
-    },
+    Ended(Ending),
     Trapped(Trap),
     /// Some of its steps have more than 4,096 segments.
     TooManySegments,
@@ -56,12 +48,12 @@ pub fn survey(
         match state.step()? {
             Stepped::Went => cutting.take(block)?,
             Stepped::Ended(code) => {
-                return Ok(Surveyed::Ended {
+                return Ok(Surveyed::Ended(Ending {
                     code,
                     public: state.public(),
                     steps,
                     lengths: cutting.lengths()?,
-                });
+                }));
             }
             Stepped::Trapped(trap) => return Ok(Surveyed::Trapped(trap)),
         }
