@@ -1,5 +1,5 @@
 -- Cutting a run: what the lengths are.
-use Rattle.std.proofs.Common.{◌≡◌, ℕ, suc, ◌+◌, ◌*◌, ◌≤◌, Bool, true, false, List, [], ◌∷◌, ◌++◌, length, length-append, append_assoc, refl, sym, ap, ◌∙◌, subst, arith}
+use Rattle.std.proofs.Common.{◌≡◌, ℕ, zero, suc, ◌+◌, ◌*◌, ◌≤◌, ◌<◌, Bool, true, false, List, [], ◌∷◌, ◌++◌, get_or, length, length-append, append_assoc, refl, sym, ap, ◌∙◌, subst, arith}
 use Rattle.std.specs.Prelude.{if◌then◌else◌, sum}
 use Rattle.std.specs.List.{AllByRecursion}
 use Rattle.std.proofs.lemmas.List.Sums.{sum_by-append, sum_by-cons}
@@ -73,7 +73,7 @@ within_sum n (k ∷ ks) kinds h =
 
 -- ---- more steps
 
-one_at_least : (n steps blocks : ℕ) (kinds : List Bool) → 1 ≤ length (cut_on n steps blocks kinds)
+pub one_at_least : (n steps blocks : ℕ) (kinds : List Bool) → 1 ≤ length (cut_on n steps blocks kinds)
 one_at_least n steps blocks [] = omega arith
 one_at_least n steps blocks (kind ∷ kinds) =
     elim (ends_before n steps blocks kind) as (λ b. 1 ≤ length (if b then steps ∷ cut_on n 1 (sha_blocks_in (kind ∷ [])) kinds else cut_on n (steps + 1) (blocks + sha_blocks_in (kind ∷ [])) kinds)) [
@@ -110,3 +110,9 @@ first_goes_in n false least = grind (arith, nat_tests)
 
 pub only_no_steps_are_empty : OnlyNoStepsAreEmpty
 only_no_steps_are_empty n kind kinds least = rw (first_goes_in n kind least) (used_on n 1 (0 + sha_blocks_in (kind ∷ [])) kinds (omega arith))
+
+-- each of them is within the limit
+pub within_each : (n : ℕ) (lengths : List ℕ) (kinds : List Bool) → AreWithin n lengths kinds → (k d : ℕ) → k < length lengths → get_or lengths k d ≤ n
+within_each n [] kinds h k d less = absurd (omega (arith, less))
+within_each n (m ∷ lengths) kinds h zero d less = h.4
+within_each n (m ∷ lengths) kinds h (suc k) d less = within_each n lengths h.1 h.6 k d (omega (arith, less))

@@ -14,3 +14,4 @@ pub mod Making
 pub mod Writes
 pub mod Chapters
 pub mod WrittenLemmas
+pub mod Whole

@@ -15,7 +15,7 @@ use Rattle.vm_prover.specs.Segments.{GoesOnWriting, IsSegmentOfParts, IsWriting,
 
 -- ---- a call of the writer
 
-sound_call : (text : List ℕ) (creating ends : Bool) (a b : TableWriter) (s t : HostState) (result : Result (Unit {0}) HostError) → a.error ≡ None → Appends text creating ends a b s t result → GoesOnWriting s t result
+pub sound_call : (text : List ℕ) (creating ends : Bool) (a b : TableWriter) (s t : HostState) (result : Result (Unit {0}) HostError) → a.error ≡ None → Appends text creating ends a b s t result → GoesOnWriting s t result
 sound_call text creating ends a b s t result sound (again e is answer same kept) = absurd (cc (sound, is))
 sound_call text creating ends a b s t result sound (first none wrote opened version whole part error) = record { cause = wrote.cause; frame = wrote.frame }
 
