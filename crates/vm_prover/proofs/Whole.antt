@@ -30,9 +30,13 @@ use Rattle.table_format.specs.Writing.{Appends, Begins, end_text}
 use Rattle.table_format.proofs.Parts.{parts_given}
 use Rattle.vm_prover.specs.declared.plan.Ending.{Ending}
 use Rattle.vm_prover.specs.Progress.{CanProve, StatesRun, file_of}
-use Rattle.vm_prover.specs.Proving.{SpellsRun}
+use Rattle.vm_prover.specs.declared.proving.Proved.{Proved}
+use Rattle.vm_prover.specs.declared.proving.Proving.{Proving}
+use Rattle.vm_prover.specs.declared.proving.Proving.TheVariants as proving
+use Rattle.vm_prover.specs.Proving.{ComesTo, EndsSo, LeavesBehind, Proves, SpellsRun}
 use Rattle.vm_prover.specs.Segments.{GoesOnWriting, IsBegun, IsEnding, IsLater, IsPlan, IsToWrite, IsWhole, IsWriting, IsWritten, Run, Stands, WritesFile}
-use Rattle.vm_prover.specs.Survey.{EndsCut}
+use Rattle.vm_prover.specs.declared.plain_run.Surveyed.{Surveyed}
+use Rattle.vm_prover.specs.Survey.{EndsCut, IsSurvey}
 use Rattle.vm_prover.proofs.EndLemmas.{ended_segments_prove}
 use Rattle.vm_prover.proofs.Lengths.{cuts_are_within, lengths_are_the_steps, one_at_least, within_each}
 use Rattle.vm_prover.proofs.SegmentLemmas.{no_segments}
@@ -181,3 +185,46 @@ file_written x version image hints ending name s t u w result b g done =
           ∙ ap (λ c. record s { faults = u.faults; output = u.output; named = u.named; content = c }) (sym (ap (λ (y : HostState). y.content) g.frame));
       whole = and_noted (IsWhole x version image hints ending u) (u.named ≡ then_more s.named ((Out, name) ∷ [])) result (subst (λ v. OnOk result (IsWhole x v image hints ending u)) b.writer.0 done) named;
     }
+
+-- ---- what a prover does
+
+pub wrote : (x : System) (version : ℕ) (loaded : Loaded) (hints : List ℕ) (per : ℕ) (ending : Ending) (claim : Proved) (name : List ℕ) (s t : HostState) → EndsCut loaded hints per ending.steps ending.lengths.items ending.code ending.public
+    → claim.code ≡ ending.code → claim.public ≡ ending.public → claim.segments ≡ length ending.lengths.items → claim.steps ≡ ending.steps → WritesFile x version loaded hints ending name s t (Ok tt)
+    → Proves x version loaded hints per name s t (Ok (proving.Proved claim))
+wrote x version loaded hints per ending claim name s t ends code public segments steps w =
+    let is : claim ≡ record { code = ending.code; public = ending.public; segments = length ending.lengths.items; steps = ending.steps } = (λ i. record { code = code i; public = public i; segments = segments i; steps = steps i }) in
+    let so : EndsSo loaded hints per (record { code = ending.code; public = ending.public; segments = length ending.lengths.items; steps = ending.steps }) = record { lengths = ending.lengths.items; ends = ends; count = refl } in
+    subst (λ c. Proves x version loaded hints per name s t (Ok (proving.Proved c))) (sym is) (record {
+      cause = record { later = w.cause.later; failed = λ no. absurd (cc) };
+      comes = so;
+      leaves = (record { so = so; closed = w.whole.0.closed; written = w.whole.0.written }, w.whole.1);
+      named = w.named;
+      frame = w.frame;
+      kept = tt;
+    })
+
+pub not_wrote : (x : System) (version : ℕ) (loaded : Loaded) (hints : List ℕ) (per : ℕ) (ending : Ending) (name : List ℕ) (s t : HostState) (e : HostError) → EndsCut loaded hints per ending.steps ending.lengths.items ending.code ending.public
+    → WritesFile x version loaded hints ending name s t (Err e) → Proves x version loaded hints per name s t (Err e)
+not_wrote x version loaded hints per ending name s t e ends w = record {
+  cause = err_cause s.faults t.faults e w.cause;
+  comes = tt;
+  leaves = tt;
+  named = w.named;
+  frame = w.frame;
+  kept = inr (record { code = ending.code; public = ending.public; segments = length ending.lengths.items; steps = ending.steps }, record { lengths = ending.lengths.items; ends = ends; count = refl });
+}
+
+pub nothing_written : (x : System) (version : ℕ) (loaded : Loaded) (hints : List ℕ) (per : ℕ) (name : List ℕ) (s : HostState) (answer : Proving) → ComesTo loaded hints per answer → LeavesBehind x version loaded hints per name s s answer
+    → Proves x version loaded hints per name s s (Ok answer)
+nothing_written x version loaded hints per name s answer comes leaves = record {
+  cause = record { later = omega arith; failed = λ no. absurd (cc) };
+  comes = comes;
+  leaves = leaves;
+  named = record { count = 0; grown = none_more s.named ((Out, name) ∷ []) };
+  frame = refl;
+  kept = tt;
+}
+
+-- what a survey on the same hints said
+pub surveyed : (loaded : Loaded) (copy hints : List ℕ) (per : ℕ) (said answer : Surveyed) → IsSurvey loaded copy per said → copy ≡ hints → said ≡ answer → IsSurvey loaded hints per answer
+surveyed loaded copy hints per said answer is same answers = subst (λ hs. IsSurvey loaded hs per answer) same (subst (IsSurvey loaded copy per) answers is)

@@ -1,7 +1,7 @@
 //! A prover: it runs an image, and writes a file of tables that states the run.
 #![tactic(auto)]
 
-ghost use Rattle.std.specs.Prelude.{◌≡◌, ◌≤◌};
+ghost use Rattle.std.specs.Prelude.{◌≡◌, ◌≤◌, IfOk};
 ghost use Rattle.acceptance.specs.Example.{IsVersion};
 ghost use Rattle.vm_transpile.specs.Program.{program_of};
 ghost use Rattle.vm_prover.specs.Progress.{OwnsRows};
@@ -29,6 +29,12 @@ pub use std::alloc::AllocError as OutOfMemory;
 use std::alloc::Global;
 use vm_host::{Host, HostError};
 
+fn copied(alloc: Global, bytes: &[u8]) -> Result<Vec<u8>, OutOfMemory>
+    ensures { IfOk result (λ copy. copy.items ≡ bytes.now) }
+{
+    bytes.to_vec(alloc)
+}
+
 /// Runs an image on hint bytes, and writes the file of a version that states the run, in segments of at most so many
 /// steps. Where the run doesn't end, or has too many segments, nothing is written.
 ///
@@ -49,7 +55,7 @@ pub fn prove_as<E: Extension, H: Host>(
     requires most { per_segment ≤ 16384 }
     ensures { Proves (E.system ext.now) version image.now hints.items per_segment name.now (H.state host.old) (H.state host.new) result }
 {
-    match survey(alloc, image, hints.clone()?, per_segment)? {
+    match survey(alloc, image, copied(alloc, &hints)?, per_segment)? {
         Surveyed::Ended(ending) => {
             write_file(alloc, ext, version, image, hints, &ending, host, name)?;
             Ok(Proving::Proved(Proved {
