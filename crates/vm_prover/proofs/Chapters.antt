@@ -43,13 +43,13 @@ not_last k n h = grind (arith, nat_tests)
 module _ (x : System) (run : Run x) (program : List VmInstr) (lengths : List ℕ) (start : Machine) (before : Leaves) (begun : TableWriter) (first : HostState) (to : IsToWrite run program lengths start before begun first)
     (k d : ℕ) (within : k < length lengths) (m : Machine) (leaves : Leaves) (w : TableWriter) (s : HostState) (so : IsWritten run (nat_eq k (length lengths)) (take k lengths) m leaves w s)
   where
-  pub ready : IsReady run program m leaves so.segments (take k lengths) (get_or lengths k d)
-  ready = record {
-    over = to.over;
-    stand = subst (λ b. Stands run b so.segments (take k lengths) m leaves) (not_last k (length lengths) within) so.stand;
-    within = omega (arith, firsts_and_next lengths k d within, to.plan.all);
-    few = to.plan.short k d within;
-  }
+    pub ready : IsReady run program m leaves so.segments (take k lengths) (get_or lengths k d)
+    ready = record {
+      over = to.over;
+      stand = subst (λ b. Stands run b so.segments (take k lengths) m leaves) (not_last k (length lengths) within) so.stand;
+      within = omega (arith, firsts_and_next lengths k d within, to.plan.all);
+      few = to.plan.short k d within;
+    }
 
 last_of : {A : Type 0} → (P : A → Type 0) (xs : List A) (x : A) → AllByRecursion P (xs ++ x ∷ []) → P x
 last_of P [] x all = all.0

@@ -89,7 +89,7 @@ pub is_made : (x : System) (run : Run x) (program : List VmInstr) (from m : Mach
     → HasParts from m ends old new tables pages parts → IsMade run ends segments lengths count m new parts
 is_made x run program from m old new segments lengths count done tables ends pages parts on r a filled touched h =
     let next = on run.version run.image run.hints segments lengths from m old done tables ends pages run.can r.stand a.under (fits_version run.version (length done) (omega (arith, a.count_is, r.few)))
-          (subst (λ p. SegmentFilled x p done tables) r.over filled) touched in
+    (subst (λ p. SegmentFilled x p done tables) r.over filled) touched in
     let reached = a.under.since.reached in
     record {
       segment = segment_from from done tables ends old pages;
@@ -109,5 +109,5 @@ is_made x run program from m old new segments lengths count done tables ends pag
         siblings = sym h.siblings_are;
       };
       stand = subst (λ n. Stands run ends (segments ++ segment_from from done tables ends old pages ∷ []) (lengths ++ n ∷ []) m new) a.count_is
-        (subst (Stands run ends (segments ++ segment_from from done tables ends old pages ∷ []) (lengths ++ length done ∷ []) m) (sym h.leaves_are) next);
+          (subst (Stands run ends (segments ++ segment_from from done tables ends old pages ∷ []) (lengths ++ length done ∷ []) m) (sym h.leaves_are) next);
     }

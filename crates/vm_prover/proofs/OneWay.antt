@@ -6,7 +6,10 @@ use Rattle.rv_run.specs.Machine.{Machine, start}
 use Rattle.rv_run.specs.Step.{ends, goes, step_of, traps}
 use Rattle.rv_run.specs.Run.{Goes}
 use Rattle.vm_prover.specs.Cut.{CutsTo, Stepped, cut}
-use Rattle.vm_prover.specs.Survey.{EndsCut, GoesPast, SurveyIsOne, TrapsCut}
+use Rattle.vm_prover.specs.declared.proving.Proved.{Proved}
+use Rattle.vm_prover.specs.declared.proving.Proving.TheVariants as proving
+use Rattle.vm_prover.specs.Proving.{EndsSo, ProvingIsOne}
+use Rattle.vm_prover.specs.Survey.{EndsCut, GoesPast, TrapsCut}
 use Rattle.vm_prover.proofs.Going.{stepped_goes}
 use Rattle.vm_prover.proofs.Lengths.{cuts_grow}
 
@@ -108,11 +111,27 @@ end_and_trap loaded hints per n lengths code shown trap a b =
     let no : ends code ≡ traps trap = sym x.0 ∙ ap (step_of loaded) one.2 ∙ y in
     absurd (cc)
 
-pub survey_is_one : SurveyIsOne
-survey_is_one loaded hints per = record {
-  ends = λ n k lengths others code other shown too. two_ends loaded hints per n k lengths others code other shown too;
-  traps = λ trap other. two_traps loaded hints per trap other;
-  ends_or_traps = λ n lengths code shown trap. end_and_trap loaded hints per n lengths code shown trap;
-  ends_or_goes_past = λ n lengths code shown a. not_past loaded hints per n lengths a.cuts (end_stops loaded a.cuts.last code (ends_there loaded hints per n lengths code shown a).0) a.few;
-  traps_or_goes_past = λ trap a. not_past loaded hints per a.steps a.lengths a.cuts (trap_stops loaded a.cuts.last trap (traps_there loaded hints per trap a)) a.few;
-}
+end_or_past : (loaded : Loaded) (hints : List ℕ) (per n : ℕ) (lengths : List ℕ) (code : ℕ) (shown : List ℕ) → EndsCut loaded hints per n lengths code shown → GoesPast loaded hints per → ⊥
+end_or_past loaded hints per n lengths code shown a = not_past loaded hints per n lengths a.cuts (end_stops loaded a.cuts.last code (ends_there loaded hints per n lengths code shown a).0) a.few
+
+trap_or_past : (loaded : Loaded) (hints : List ℕ) (per : ℕ) (trap : Trap) → TrapsCut loaded hints per trap → GoesPast loaded hints per → ⊥
+trap_or_past loaded hints per trap a = not_past loaded hints per a.steps a.lengths a.cuts (trap_stops loaded a.cuts.last trap (traps_there loaded hints per trap a)) a.few
+
+-- ---- what a prover answers
+
+same_claim : (loaded : Loaded) (hints : List ℕ) (per : ℕ) (a b : Proved) → EndsSo loaded hints per a → EndsSo loaded hints per b → a ≡ b
+same_claim loaded hints per a b x y =
+    let one = two_ends loaded hints per a.steps b.steps x.lengths y.lengths a.code b.code a.public b.public x.ends y.ends in
+    let segments : a.segments ≡ b.segments = x.count ∙ ap length one.1 ∙ sym y.count in
+    (λ i. record { code = one.2 i; public = one.3 i; segments = segments i; steps = one.0 i })
+
+pub proving_is_one : ProvingIsOne
+proving_is_one loaded hints per (proving.Proved a) (proving.Proved b) x y = ap proving.Proved (same_claim loaded hints per a b x y)
+proving_is_one loaded hints per (proving.Proved a) (proving.Trapped t) x y = absurd (end_and_trap loaded hints per _ _ _ _ t x.ends y)
+proving_is_one loaded hints per (proving.Proved a) proving.TooManySegments x y = absurd (end_or_past loaded hints per _ _ _ _ x.ends y)
+proving_is_one loaded hints per (proving.Trapped t) (proving.Proved b) x y = absurd (end_and_trap loaded hints per _ _ _ _ t y.ends x)
+proving_is_one loaded hints per (proving.Trapped t) (proving.Trapped u) x y = ap proving.Trapped (two_traps loaded hints per t u x y)
+proving_is_one loaded hints per (proving.Trapped t) proving.TooManySegments x y = absurd (trap_or_past loaded hints per t x y)
+proving_is_one loaded hints per proving.TooManySegments (proving.Proved b) x y = absurd (end_or_past loaded hints per _ _ _ _ y.ends x)
+proving_is_one loaded hints per proving.TooManySegments (proving.Trapped u) x y = absurd (trap_or_past loaded hints per u y x)
+proving_is_one loaded hints per proving.TooManySegments proving.TooManySegments x y = refl

@@ -103,13 +103,13 @@ module _ (x : System) (fits : ExtensionFits x) (image : Loaded) (hints : Hints) 
   spells (Some bytes) new lengths m leaves segments claim are stand plan claims told is =
       let file = file_of w.version segments ending.code leaves in
       let states : StatesRun x image hints lengths ending.code ending.public file =
-            ended_segments_prove x w.version image hints segments lengths m leaves ending.code ending.public can stand plan.some plan.few (subst (λ n. Ends image hints n ending.code ending.public) (sym plan.all) ends.ends) in
+      ended_segments_prove x w.version image hints segments lengths m leaves ending.code ending.public can stand plan.some plan.few (subst (λ n. Ends image hints n ending.code ending.public) (sym plan.all) ends.ends) in
       let same : claim ≡ claim_of file = claims ∙ ap (λ shown. record { code = ending.code; public = shown; path = path_of leaves PUBLIC_LABEL }) (sym states.public_are) in
       let text : bytes ++ end_text claim ≡ file_text file =
-            ap (λ b. b ++ end_text claim) told ∙ append_assoc (head_text w.version) (flat_map piece_text segments) (end_text claim)
-            ∙ ap (λ (k : Claim). head_text w.version ++ (flat_map piece_text segments ++ end_text k)) same ∙ parts_given file in
+      ap (λ b. b ++ end_text claim) told ∙ append_assoc (head_text w.version) (flat_map piece_text segments) (end_text claim)
+      ∙ ap (λ (k : Claim). head_text w.version ++ (flat_map piece_text segments ++ end_text k)) same ∙ parts_given file in
       subst (λ o. IfSome o (SpellsRun x w.version image hints ending.lengths.items ending.code ending.public)) (sym is)
-        (record { file = file; text = text; version_is = refl; states = subst (λ ls. StatesRun x image hints ls ending.code ending.public file) are states })
+      (record { file = file; text = text; version_is = refl; states = subst (λ ls. StatesRun x image hints ls ending.code ending.public file) are states })
 
   pub whole : (program : List VmInstr) (lengths : List ℕ) (start m : Machine) (before leaves : Leaves) (v v' : TableWriter) (s t u : HostState) (claim : Claim) (result : Result (Unit {0}) HostError) → lengths ≡ ending.lengths.items
       → IsToWrite run_of program lengths start before w s → IsWritten run_of true lengths m leaves v t → claim ≡ record { code = ending.code; public = ending.public; path = path_of leaves PUBLIC_LABEL }

@@ -50,7 +50,7 @@ appends : (pages : List Touched) (siblings : List (List ℕ)) (parts : Parts) (a
     → Says pages siblings parts a b s t result → IsWriting version a → IsSegmentOfParts version parts segment → Appends (piece_text segment) true false a b s t result
 appends pages siblings parts a b s t result version segment same_pages same_siblings says writing is =
     let here : IsSegmentOf a.version parts.connector parts.opening.start parts.opening.end parts.tables parts.pages.items parts.opening.siblings.items segment =
-          subst (λ n. IsSegmentOf n parts.connector parts.opening.start parts.opening.end parts.tables parts.pages.items parts.opening.siblings.items segment) (sym writing.version_is) is in
+    subst (λ n. IsSegmentOf n parts.connector parts.opening.start parts.opening.end parts.tables parts.pages.items parts.opening.siblings.items segment) (sym writing.version_is) is in
     let paged = subst (λ ps. IsSegmentOf a.version parts.connector parts.opening.start parts.opening.end parts.tables ps parts.opening.siblings.items segment) (sym same_pages) here in
     says segment (subst (λ ss. IsSegmentOf a.version parts.connector parts.opening.start parts.opening.end parts.tables pages ss segment) (sym same_siblings) paged)
 

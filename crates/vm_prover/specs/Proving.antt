@@ -59,3 +59,7 @@ pub record Proves (x : System) (version : ℕ) (loaded : Loaded) (hints : List �
   pub named : GrowsByPart old.named new.named ((Out, name) ∷ [])
   pub frame : new ≡ record old { faults = new.faults; output = new.output; named = new.named; content = new.content }
   pub kept : OnErr result ((new ≡ old) ⊎ ((claim : Proved) × EndsSo loaded hints per_segment claim))
+
+-- a run comes to one thing
+abbrev pub ProvingIsOne : Type 0
+ProvingIsOne = (loaded : Loaded) (hints : List ℕ) (per_segment : ℕ) (a b : Proving) → ComesTo loaded hints per_segment a → ComesTo loaded hints per_segment b → a ≡ b

@@ -32,15 +32,3 @@ abbrev pub IsSurvey : Loaded → List ℕ → ℕ → Surveyed → Type 0
 IsSurvey loaded hints per_segment (Ended ending) = EndsCut loaded hints per_segment ending.steps ending.lengths.items ending.code ending.public
 IsSurvey loaded hints per_segment (Trapped trap) = TrapsCut loaded hints per_segment trap
 IsSurvey loaded hints per_segment TooManySegments = GoesPast loaded hints per_segment
-
--- A run ends in one way: of ending, trapping and having more segments no two hold of it, nor any of them twice.
-pub record IsOneWay (loaded : Loaded) (hints : List ℕ) (per_segment : ℕ) : Type 0 where
-  pub ends : (n k : ℕ) (lengths others : List ℕ) (code other : ℕ) (shown too : List ℕ) → EndsCut loaded hints per_segment n lengths code shown → EndsCut loaded hints per_segment k others other too
-      → (n ≡ k) × (lengths ≡ others) × (code ≡ other) × (shown ≡ too)
-  pub traps : (trap other : Cause) → TrapsCut loaded hints per_segment trap → TrapsCut loaded hints per_segment other → trap ≡ other
-  pub ends_or_traps : (n : ℕ) (lengths : List ℕ) (code : ℕ) (shown : List ℕ) (trap : Cause) → EndsCut loaded hints per_segment n lengths code shown → TrapsCut loaded hints per_segment trap → ⊥
-  pub ends_or_goes_past : (n : ℕ) (lengths : List ℕ) (code : ℕ) (shown : List ℕ) → EndsCut loaded hints per_segment n lengths code shown → GoesPast loaded hints per_segment → ⊥
-  pub traps_or_goes_past : (trap : Cause) → TrapsCut loaded hints per_segment trap → GoesPast loaded hints per_segment → ⊥
-
-abbrev pub SurveyIsOne : Type 0
-SurveyIsOne = (loaded : Loaded) (hints : List ℕ) (per_segment : ℕ) → IsOneWay loaded hints per_segment

@@ -1,5 +1,7 @@
 //! What whole segments come to. Each function does nothing when it runs: its contract is the law.
 ghost use Rattle.vm_prover.specs.Laws.{AllOpcodesOwnRows, NoSegmentsStand, SegmentsComeUnderWay, RecordsGoOn, RecordsCanBeFilled, SegmentsGoOn, SegmentsAreMade, PutsGoOn, EachVersionTakes16384, EndedSegmentsProve, EndingRunsGoOn};
+ghost use Rattle.vm_prover.specs.Cut.{CutsAreWithin, CutsGrow, LengthsAreTheSteps, OnlyNoStepsAreEmpty};
+ghost use Rattle.vm_prover.specs.Proving.{ProvingIsOne};
 
 use air_core::Extension;
 use vm_filler::laws::{
@@ -58,4 +60,22 @@ pub fn ended_segments_prove<E: Extension>()
 /// The machine goes on as long as a run that ends, and ends with its exit code.
 pub fn ending_runs_go_on()
     ensures { EndingRunsGoOn }
+{}
+
+/// Each segment has at most as many steps as are asked for, and at most 1,024 SHA blocks. All of them have the steps of
+/// the run. None is empty, but where the run has no steps.
+pub fn cuts_are_within_limits()
+    ensures within { CutsAreWithin }
+    ensures all { LengthsAreTheSteps }
+    ensures used { OnlyNoStepsAreEmpty }
+{}
+
+/// A run that goes on has no fewer segments.
+pub fn cuts_grow()
+    ensures { CutsGrow }
+{}
+
+/// A run comes to one thing: it is proved with one claim, comes to one trap, or has too many segments.
+pub fn proving_is_one()
+    ensures { ProvingIsOne }
 {}

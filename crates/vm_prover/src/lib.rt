@@ -7,7 +7,6 @@ ghost use Rattle.vm_transpile.specs.Program.{program_of};
 ghost use Rattle.vm_prover.specs.Progress.{OwnsRows};
 ghost use Rattle.vm_prover.specs.Proving.{Proves};
 
-mod cuts;
 mod cutting;
 mod file;
 pub mod laws;
@@ -19,7 +18,6 @@ mod records;
 mod segment;
 
 use air_core::Extension;
-pub use cuts::{cuts_are_within_limits, cuts_grow, survey_is_one};
 use elf_image::Image;
 use file::write_file;
 pub use plain_run::{Surveyed, survey};

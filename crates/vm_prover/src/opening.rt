@@ -40,11 +40,7 @@ fn put_pages(tree: &mut Tree, pages: &[Touched]) -> Result<(), OutOfMemory>
 }
 
 /// Opens the pages in the tree, and puts their new bytes.
-pub fn open_pages(
-    alloc: Global,
-    tree: &mut Tree,
-    pages: &[Touched],
-) -> Result<Opening, OutOfMemory>
+pub fn open_pages(alloc: Global, tree: &mut Tree, pages: &[Touched]) -> Result<Opening, OutOfMemory>
     requires rising { IsStrictlyIncreasing (labels_of pages.now) }
     requires in_tree { AreLabels (labels_of pages.now) }
     ensures start { IfOk result (λ opening. opening.start ≡ root (leaves_of tree.old)) }

@@ -18,9 +18,9 @@ loop-number-preserved c =
     let step = answers _ (program_of c.args.machine.now) (machine_of c.loop-number.machine) (machine_of c.step.new.self) c.in_ok-record.field-0 i.same c.in_ok-record.ensures.step in
     elim c.match-branch-3.branch [
       | in-Went+in_ok-map_err w ↦ record {
-          taken = λ x run steps g. taken_more x run _ _ (machine_of c.loop-number.machine) (machine_of c.step.new.self) steps _ _ _ _ w.in-Went.record c.in_ok-record.field-0 g (i.taken x run steps g) c.loop-number-test.true step w.in-Went.is (first_of (search rules, grind (arith, common_steps)));
-          same = c.in_ok-record.ensures.program ∙ i.same;
-        }
+        taken = λ x run steps g. taken_more x run _ _ (machine_of c.loop-number.machine) (machine_of c.step.new.self) steps _ _ _ _ w.in-Went.record c.in_ok-record.field-0 g (i.taken x run steps g) c.loop-number-test.true step w.in-Went.is (first_of (search rules, grind (arith, common_steps)));
+        same = c.in_ok-record.ensures.program ∙ i.same;
+      }
       | in_default w ↦
           let r = c.requires in
           absurd (always_goes r.0 r.1.0 _ _ (machine_of c.loop-number.machine) (machine_of c.step.new.self) r.1.1.0 _ _ _ c.in_ok-record.field-0 r.1.1.1 (i.taken r.0 r.1.0 r.1.1.0 r.1.1.1) c.loop-number-test.true step w.in_default.not-Went)
