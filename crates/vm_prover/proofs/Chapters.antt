@@ -1,5 +1,5 @@
 -- Segments that are written one after the other.
-use Rattle.std.proofs.Common.{◌≡◌, ℕ, zero, suc, ◌+◌, ◌≤◌, ◌<◌, Bool, true, false, nat_eq, List, [], ◌∷◌, ◌++◌, length, take, get_or, append_assoc, append-nil, Option, Some, None, Result, Ok, Err, refl, sym, ap, ◌∙◌, subst, arith}
+use Rattle.std.proofs.Common.{◌≡◌, ℕ, zero, suc, ◌+◌, ◌≤◌, ◌<◌, Bool, false, nat_eq, List, [], ◌∷◌, ◌++◌, length, take, get_or, append_assoc, append-nil, Option, Some, None, Result, sym, ap, ◌∙◌, subst, arith}
 use Rattle.std.specs.Prelude.{IfSome, flat_map, sum}
 use Rattle.std.specs.List.{AllByRecursion}
 use Rattle.std.proofs.lemmas.Bool.Decides.{nat_tests}
@@ -19,7 +19,7 @@ use Rattle.acceptance.specs.Accepts.{shape_of}
 use Rattle.table_format.specs.declared.table_writer.TableWriter.{TableWriter}
 use Rattle.table_format.specs.Texts.{head_text, piece_text}
 use Rattle.vm_prover.specs.declared.segment.Parts.{Parts}
-use Rattle.vm_prover.specs.Segments.{GoesOnWriting, IsLater, IsMade, IsReady, IsSegmentOfParts, IsToWrite, IsWriting, IsWritten, Run, Stands, WritesPiece}
+use Rattle.vm_prover.specs.Segments.{GoesOnWriting, IsLater, IsMade, IsReady, IsSegmentOfParts, IsToWrite, IsWritten, Run, Stands, WritesPiece}
 
 -- ---- a host that goes on
 

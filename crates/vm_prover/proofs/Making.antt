@@ -1,6 +1,6 @@
 -- A segment that is made of its records, its pages and their opening.
-use Rattle.std.proofs.Common.{◌≡◌, ℕ, ◌+◌, ◌*◌, ◌≤◌, ◌<◌, Bool, true, false, List, [], ◌∷◌, ◌++◌, length, map, get_or, inl, inr, refl, sym, ap, ◌∙◌, subst, arith}
-use Rattle.std.specs.Prelude.{All, if◌then◌else◌, nat_eq, sum}
+use Rattle.std.proofs.Common.{◌≡◌, ℕ, ◌*◌, ◌≤◌, ◌<◌, Bool, true, false, List, [], ◌∷◌, ◌++◌, length, get_or, inl, inr, refl, sym, ap, ◌∙◌, subst, arith}
+use Rattle.std.specs.Prelude.{if◌then◌else◌, nat_eq, sum}
 use Rattle.vm_trace.specs.Canonical.{height_of}
 use Rattle.vm_trace.specs.Limits.{Limits, limits_of}
 use Rattle.std.specs.List.Sorted.{IsStrictlyIncreasing}
@@ -17,13 +17,11 @@ use Rattle.air_core.specs.System.{System}
 use Rattle.page_tree.specs.Opening.{AreLabels, siblings_of}
 use Rattle.page_tree.specs.Parts.{label_of, labels_of, with_pages}
 use Rattle.page_tree.specs.Tree.{Leaves, root}
-use Rattle.vm_transpile.specs.Program.{program_of}
 use Rattle.vm_executor.specs.Machine.{Machine}
 use Rattle.vm_executor.specs.Pages.{AreTouched, Times}
 use Rattle.vm_executor.specs.Records.{AreRecords}
 use Rattle.vm_filler.specs.Segment.{SegmentFilled}
 use Rattle.table_format.specs.declared.item.Connector.{Connector}
-use Rattle.vm_prover.specs.declared.opening.Opening.{Opening}
 use Rattle.vm_prover.specs.declared.segment.Parts.{Parts}
 use Rattle.vm_prover.specs.Laws.{SegmentsGoOn}
 use Rattle.vm_prover.specs.Progress.{FitsVersion, segment_from}

@@ -1,6 +1,6 @@
 -- The whole file of a run.
-use Rattle.std.proofs.Common.{◌≡◌, ℕ, ◌+◌, ◌-◌, ◌^◌, ◌≤◌, ◌<◌, Bool, true, false, List, [], ◌∷◌, ◌++◌, length, take, get_or, append_assoc, append-nil, Option, Some, None, Result, Ok, Err, inl, inr, refl, sym, ap, ◌∙◌, subst, arith, ⊎_elim}
-use Rattle.std.specs.Prelude.{IfSome, OnOk, IsErrOf, flat_map, sum, min, ◌⊎◌}
+use Rattle.std.proofs.Common.{◌≡◌, ℕ, ◌≤◌, ◌<◌, true, false, List, [], ◌∷◌, ◌++◌, length, take, get_or, append_assoc, append-nil, Option, Some, None, Result, Ok, Err, inl, inr, refl, sym, ap, ◌∙◌, subst, arith}
+use Rattle.std.specs.Prelude.{IfSome, OnOk, flat_map, sum}
 use Rattle.std.proofs.Math.Path.{fun_ext}
 use Rattle.elf_image.specs.Loaded.{Loaded}
 use Rattle.rv_run.specs.Run.{Ends}
@@ -8,12 +8,12 @@ use Rattle.vm_host.specs.declared.HostError.{HostError}
 use Rattle.vm_host.specs.declared.HostError.TheVariants.{Failed, OutOfMemory}
 use Rattle.vm_host.specs.declared.Place.{Place}
 use Rattle.vm_host.specs.declared.Place.TheVariants.{Out}
-use Rattle.vm_host.specs.Calls.{GrowsByPart, HasCause, Notes, Rose}
+use Rattle.vm_host.specs.Calls.{GrowsByPart, HasCause, Notes}
 use Rattle.vm_host.specs.State.{HostState, then_more}
 use Rattle.vm_isa.specs.declared.instr.VmInstr.{VmInstr}
 use Rattle.vm_isa.specs.Hints.{Hints}
 use Rattle.vm_trace.specs.declared.page.TheConstants.{PUBLIC_LABEL}
-use Rattle.vm_trace.specs.File.{File, Segment}
+use Rattle.vm_trace.specs.File.{Segment}
 use Rattle.air_core.specs.ExtensionLaws.{ExtensionFits}
 use Rattle.air_core.specs.System.{System}
 use Rattle.page_tree.specs.Path.{path_of}
@@ -34,13 +34,13 @@ use Rattle.vm_prover.specs.declared.proving.Proved.{Proved}
 use Rattle.vm_prover.specs.declared.proving.Proving.{Proving}
 use Rattle.vm_prover.specs.declared.proving.Proving.TheVariants as proving
 use Rattle.vm_prover.specs.Proving.{ComesTo, EndsSo, LeavesBehind, Proves, SpellsRun}
-use Rattle.vm_prover.specs.Segments.{GoesOnWriting, IsBegun, IsEnding, IsLater, IsPlan, IsToWrite, IsWhole, IsWriting, IsWritten, Run, Stands, WritesFile}
+use Rattle.vm_prover.specs.Segments.{GoesOnWriting, IsBegun, IsEnding, IsLater, IsPlan, IsToWrite, IsWhole, IsWritten, Run, Stands, WritesFile}
 use Rattle.vm_prover.specs.declared.plain_run.Surveyed.{Surveyed}
 use Rattle.vm_prover.specs.Survey.{EndsCut, IsSurvey}
 use Rattle.vm_prover.proofs.EndLemmas.{ended_segments_prove}
 use Rattle.vm_prover.proofs.Lengths.{cuts_are_within, lengths_are_the_steps, one_at_least, within_each}
 use Rattle.vm_prover.proofs.SegmentLemmas.{no_segments}
-use Rattle.vm_prover.proofs.Writes.{Wholly, sound_call, wholly}
+use Rattle.vm_prover.proofs.Writes.{sound_call, wholly}
 use Rattle.vm_prover.proofs.WrittenLemmas.{cause_more}
 
 -- ---- the plan

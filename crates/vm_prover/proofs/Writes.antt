@@ -1,14 +1,12 @@
 -- What a prover writes.
-use Rattle.std.proofs.Common.{◌≡◌, ℕ, ◌+◌, ◌-◌, ◌^◌, ◌≤◌, ◌<◌, Bool, true, false, List, [], ◌∷◌, ◌++◌, length, min, Option, Some, None, Result, Ok, Err, refl, sym, ap, ◌∙◌, subst, arith, append-nil}
-use Rattle.std.specs.Prelude.{OnOk, IsErrOf}
+use Rattle.std.proofs.Common.{◌≡◌, ℕ, Bool, true, false, List, [], ◌++◌, None, Result, Ok, Err, sym, ap, ◌∙◌, subst, append-nil}
+use Rattle.std.specs.Prelude.{OnOk}
 use Rattle.vm_host.specs.declared.HostError.{HostError}
-use Rattle.vm_host.specs.declared.HostError.TheVariants.{Failed}
-use Rattle.vm_host.specs.Calls.{HasCause, Rose}
 use Rattle.vm_host.specs.State.{HostState, then_more}
 use Rattle.vm_trace.specs.File.{Segment}
 use Rattle.table_format.specs.declared.table_writer.TableWriter.{TableWriter}
 use Rattle.table_format.specs.Texts.{piece_text}
-use Rattle.table_format.specs.Writing.{Appends, again, first, IsSegmentOf, Wrote, error_in}
+use Rattle.table_format.specs.Writing.{Appends, again, first, IsSegmentOf}
 use Rattle.vm_trace.specs.declared.page.Touched.{Touched}
 use Rattle.vm_prover.specs.declared.segment.Parts.{Parts}
 use Rattle.vm_prover.specs.Segments.{GoesOnWriting, IsSegmentOfParts, IsWriting, WritesPiece}

@@ -1,5 +1,5 @@
 -- How a run ends, as far as a file can tell it: one has at most 4,096 segments.
-use Rattle.std.specs.Prelude.{◌≡◌, ℕ, ◌<◌, ◌≤◌, List, length}
+use Rattle.std.specs.Prelude.{ℕ, ◌<◌, ◌≤◌, List, length}
 use Rattle.elf_image.specs.Loaded.{Loaded}
 use Rattle.rv_run.specs.declared.outcome.Trap.{Trap as Cause}
 use Rattle.rv_run.specs.Run.{Ends, Traps}

@@ -1,4 +1,4 @@
-use Rattle.std.proofs.Common.{◌≡◌, ◌∙◌, refl, rules}
+use Rattle.std.proofs.Common.{◌∙◌, refl, rules}
 use Rattle.std.proofs.lemmas.Result.{err_from_is_err_and}
 use Rattle.vm_prover.proofs.Whole.{not_wrote, nothing_written, planned, surveyed, wrote}
 use Rattle.vm_prover.proofs.prove_as.Goals as goal

@@ -1,6 +1,5 @@
-use Rattle.std.proofs.Common.{◌≡◌, ◌∙◌, ℕ, refl, subst, sym, ap}
 use Rattle.std.proofs.lemmas.Result.{err_from_is_err_and}
-use Rattle.vm_prover.proofs.Whole.{file_written, is_begun, not_begun}
+use Rattle.vm_prover.proofs.Whole.{file_written, not_begun}
 use Rattle.vm_prover.proofs.file.write_file.Goals as goal
 
 pub returns-in_err-writer : goal.returns-in_err-writer

@@ -1,4 +1,3 @@
-use Rattle.std.proofs.Common.{◌≡◌, ◌∙◌, ℕ, refl, subst, sym, ap}
 use Rattle.page_tree.specs.Kept.{leaves_of}
 use Rattle.vm_executor.specs.State.{machine_of}
 use Rattle.vm_prover.proofs.Whole.{finish_goes_on, later_of, run_of, to_write, whole}

@@ -1,7 +1,7 @@
-use Rattle.std.proofs.Common.{◌≡◌, ◌∙◌, ℕ, ◌+◌, length, take, nat_eq, refl, subst, sym, ap, arith}
+use Rattle.std.proofs.Common.{◌∙◌, ◌+◌, length, take, nat_eq, subst, ap}
 use Rattle.page_tree.specs.Kept.{leaves_of}
-use Rattle.vm_executor.specs.State.{machine_of, program_of}
-use Rattle.vm_prover.specs.Segments.{IsMade, IsWritten}
+use Rattle.vm_executor.specs.State.{machine_of}
+use Rattle.vm_prover.specs.Segments.{IsWritten}
 use Rattle.vm_prover.proofs.Chapters.{later_then, ready, segment_of_parts, written_more}
 use Rattle.vm_prover.proofs.file.write_segments.Goals as goal
 

@@ -1,9 +1,8 @@
-use Rattle.std.proofs.Common.{◌≡◌, ◌∙◌, ℕ, refl, subst, sym, ap, arith, rules}
+use Rattle.std.proofs.Common.{◌≡◌, ◌∙◌, subst, arith, rules}
 use Rattle.std.proofs.lemmas.Grind.{common_steps}
-use Rattle.air_core.specs.System.{System}
 use Rattle.vm_executor.specs.State.{machine_of, program_of}
 use Rattle.vm_prover.specs.Segments.{AreTaken}
-use Rattle.vm_prover.proofs.Takes.{always_goes, answers, early, none_taken, taken_more}
+use Rattle.vm_prover.proofs.Takes.{always_goes, answers, early, taken_more}
 use Rattle.vm_prover.proofs.records.take_records.Goals as goal
 use Rattle.vm_prover.proofs.records.take_records.Goals.{in-Went+in_ok-map_err, in_default}
 

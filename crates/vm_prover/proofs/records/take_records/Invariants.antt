@@ -1,5 +1,4 @@
-use Rattle.std.proofs.Common.{◌≡◌, ℕ, length}
-use Rattle.vm_executor.specs.Machine.{begun}
+use Rattle.std.proofs.Common.{◌≡◌, ℕ}
 use Rattle.air_core.specs.System.{System}
 use Rattle.vm_executor.specs.State.{machine_of, program_of}
 use Rattle.vm_prover.specs.Segments.{AreTaken, GoesOn, Run}

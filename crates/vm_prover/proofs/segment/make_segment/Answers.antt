@@ -1,13 +1,12 @@
-use Rattle.std.proofs.Common.{◌≡◌, ◌∙◌, ℕ, refl, subst, sym, ap}
+use Rattle.std.proofs.Common.{◌∙◌, refl, subst, sym, ap}
 use Rattle.std.specs.List.Sorted.{IsStrictlyIncreasing}
 use Rattle.page_tree.specs.Kept.{leaves_of}
 use Rattle.page_tree.specs.Opening.{AreLabels, siblings_of}
 use Rattle.page_tree.specs.Parts.{labels_of, with_pages}
 use Rattle.page_tree.specs.Tree.{root}
 use Rattle.vm_executor.specs.Records.{AreRecords}
-use Rattle.vm_executor.specs.State.{machine_of, program_of}
+use Rattle.vm_executor.specs.State.{machine_of}
 use Rattle.vm_filler.specs.Segment.{SegmentFilled}
-use Rattle.vm_prover.specs.Segments.{GoesOn}
 use Rattle.vm_prover.proofs.Making.{can_be_filled, is_made, labels_are_low, labels_rise, ready_goes_on}
 use Rattle.vm_prover.proofs.segment.make_segment.Goals as goal
 
