@@ -14,7 +14,7 @@ use Rattle.acceptance.proofs.Row.{slot_word}
 pub any_given : (i : VmInstr) (olds : List (List ℕ)) (given other : List ℕ) (m : Meaning) → nat_eq i.op 37 ≡ false → means_of i olds given ≡ Some m → means_of i olds other ≡ Some m
 any_given i olds given other m none h = means_same i olds other given none ∙ h
 
-hint_places : (i : VmInstr) (b c : ℕ) → i.op ≡ 37 → length (places_by i b c) ≡ 2
+pub hint_places : (i : VmInstr) (b c : ℕ) → i.op ≡ 37 → length (places_by i b c) ≡ 2
 unfolding places_by
 hint_places i b c h = rw h refl
 

@@ -55,14 +55,14 @@ module _ (bus : ℕ) (test : Event → Bool) (only : (e : Event) → nat_eq e.bu
   any_by e es true at more = ap (λ (t : Bool). test e || t) more
   any_by e es false at more = rw (only e at) more
 
-  any_on_bus : (events : List Event) → list_any test events ≡ list_any test (on_bus bus events)
+  pub any_on_bus : (events : List Event) → list_any test events ≡ list_any test (on_bus bus events)
   any_on_bus [] = refl
   any_on_bus (e ∷ es) = any_by e es (nat_eq e.bus bus) refl (any_on_bus es)
 
 program_only : (op : ℕ) (e : Event) → nat_eq e.bus 1 ≡ false → is_program op e ≡ false
 program_only op e h = rw h refl
 
-path_only : (e : Event) → nat_eq e.bus 0 ≡ false → nat_eq e.bus 0 ≡ false
+pub path_only : (e : Event) → nat_eq e.bus 0 ≡ false → nat_eq e.bus 0 ≡ false
 path_only e h = h
 
 or_false : (b : Bool) → (b || false) ≡ b
@@ -73,7 +73,7 @@ sends_of_row : (op : ℕ) (instr : VmInstr) → list_any (is_program op) (sent 1
 unfolding numbers_of
 sends_of_row op instr = or_false (nat_eq instr.op op)
 
-sends_by : (op : ℕ) (instr : VmInstr) (events : List Event) → on_bus 1 events ≡ sent 1 1 (numbers_of instr) ∷ [] → sends_program op events ≡ nat_eq instr.op op
+pub sends_by : (op : ℕ) (instr : VmInstr) (events : List Event) → on_bus 1 events ≡ sent 1 1 (numbers_of instr) ∷ [] → sends_program op events ≡ nat_eq instr.op op
 sends_by op instr events e = any_on_bus 1 (is_program op) (program_only op) events ∙ ap (list_any (is_program op)) e ∙ sends_of_row op instr
 
 -- ---- a row that says nothing below bus 3
@@ -105,7 +105,7 @@ silent_no_hint h events silent is =
 
 -- ---- a valid row
 
-path_any : (a b : List ℕ) → list_any (λ e. nat_eq e.bus 0) (received 0 1 a ∷ sent 0 1 b ∷ []) ≡ true
+pub path_any : (a b : List ℕ) → list_any (λ e. nat_eq e.bus 0) (received 0 1 a ∷ sent 0 1 b ∷ []) ≡ true
 path_any a b = refl
 
 times_by : (e : Event) (es : List Event) (b : Bool) → nat_eq e.bus 0 ≡ b → times_of es ≡ times_of (on_bus 0 es) → times_of (e ∷ es) ≡ times_of (cond b (e ∷ []) [] ++ on_bus 0 es)
@@ -164,7 +164,7 @@ hint_made-fields : (h : HintWord) → hint_made h.time h.word h.next ≡ h
 unfolding hint_made
 hint_made-fields h = refl
 
-no_opcode : (instr : VmInstr) → InRange instr → instr.op ≡ 42 → ⊥
+pub no_opcode : (instr : VmInstr) → InRange instr → instr.op ≡ 42 → ⊥
 no_opcode instr range is = let low = range.opcode in let high : false ≡ true = rw is at low in absurd (cc)
 
 module _ (slots bits : ℕ) (instr : VmInstr) (time next : ℕ) (accesses : List Touched) (events : List Event) (few : slots ≤ 64) (step : IsStep slots bits instr time next accesses events) where

@@ -1,7 +1,7 @@
 //! The rows of the lookup tables by their places, and the places of rows. No table stands in memory.
 #![tactic(auto)]
 
-ghost use Rattle.std.specs.Prelude.{◌≡◌, ◌<◌, ◌↔◌, ℕ, List, Some};
+ghost use Rattle.std.specs.Prelude.{◌≡◌, ◌<◌, ◌≤◌, ◌↔◌, ℕ, List, Some, length};
 ghost use Rattle.sha_words.specs.Sha256.{round_constant};
 ghost use Rattle.lookup_tables.specs.Places.{XorAt, RangeAt, ConstantAt, IsRowAt};
 
@@ -9,9 +9,10 @@ pub mod laws;
 #[cfg(test)]
 mod tests;
 
-use air_core::Tuple;
 use air_core::bus::{RANGE, SHA_CONSTANTS, XOR};
+use air_core::{MAX_TUPLE, Tuple};
 use sha_words::ROUND_CONSTANTS;
+use vm_field::Fe;
 
 /// The row at a place of the table of a bus.
 pub fn tuple_at(bus: u8, place: u32) -> Option<Tuple>
@@ -35,6 +36,41 @@ pub fn count_place(bus: u8, tuple: &Tuple) -> Option<u32>
         SHA_CONSTANTS => constant_place(tuple),
         _ => None,
     }
+}
+
+/// As `count_place`, of a row's elements: no tuple is made of them, but of a round's constant.
+pub fn place_of_elements(bus: u8, elements: &[Fe]) -> Option<u32>
+    requires { length elements.now ≤ MAX_TUPLE }
+    ensures { (place : ℕ) → (result ≡ Some place ↔ IsRowAt bus place elements.now) }
+{
+    match bus {
+        XOR => place_of_three(elements),
+        RANGE => place_of_two(elements),
+        SHA_CONSTANTS => constant_place(&Tuple::of_elements(elements)),
+        _ => None,
+    }
+}
+
+fn place_of_three(elements: &[Fe]) -> Option<u32>
+    ensures { (place : ℕ) → (result ≡ Some place ↔ XorAt place elements.now) }
+{
+    if elements.len() != 3 {
+        return None;
+    }
+    xor_place(&[
+        elements[0].value(),
+        elements[1].value(),
+        elements[2].value(),
+    ])
+}
+
+fn place_of_two(elements: &[Fe]) -> Option<u32>
+    ensures { (place : ℕ) → (result ≡ Some place ↔ RangeAt place elements.now) }
+{
+    if elements.len() != 2 {
+        return None;
+    }
+    range_place(&[elements[0].value(), elements[1].value()])
 }
 
 fn xor_at(place: u32) -> Option<Tuple>

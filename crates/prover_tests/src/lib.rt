@@ -1,0 +1,5 @@
+//! Segments that are filled, beside numbers that were put down by hand.
+#![tactic(auto)]
+
+#[cfg(test)]
+mod one_addition;

@@ -1,0 +1,22 @@
+pub mod Lawful
+mod Exchange
+mod Owners
+mod FixedRows
+mod EntryEvents
+mod RecordSums
+mod SevenLists
+mod Sent
+mod Balance
+mod Limits
+mod SegmentHolds
+mod RecordHints
+mod Counting
+mod Spells
+mod EntriesFit
+mod Bounds
+mod Canonical
+mod CountLemmas
+mod RowsLemmas
+mod TablesLemmas
+mod PushLemmas
+mod SegmentLemmas
