@@ -2,6 +2,7 @@ pub mod MakerLemmas
 pub mod Texts
 pub mod Files
 pub mod InstrWords
+pub mod OneWord
 pub mod SampleWords
 pub mod TextPlaces
 pub mod SampleText
