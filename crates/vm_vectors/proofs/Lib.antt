@@ -1,4 +1,5 @@
 pub mod MakerLemmas
+pub mod WordFields
 pub mod Texts
 pub mod Files
 pub mod InstrWords

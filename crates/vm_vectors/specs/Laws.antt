@@ -9,7 +9,7 @@ use Rattle.elf_image.specs.Loaded.{word_of}
 use Rattle.rv_run.specs.Run.{Ends}
 use Rattle.vm_vectors.specs.ElfFile.{text_image}
 use Rattle.vm_vectors.specs.Makers.{DecodesByI}
-use Rattle.vm_vectors.specs.Sample.{AreWordsOf, sample_of, sample_base}
+use Rattle.vm_vectors.specs.Sample.{AreWordsOf, sample_of, sample_text, sample_base}
 
 -- ADDI, whose line fixes nothing but opcode and funct3
 abbrev pub AddiWordDecodes : Type 0
@@ -20,6 +20,10 @@ AddiWordDecodes = (word rd rs1 imm : ℕ) → DecodesByI word 0x13 0 rd rs1 imm
 abbrev pub TerminateWordDecodes : Type 0
 TerminateWordDecodes = (word code : ℕ) → code < 256 → rd_of word ≡ 0 → rs1_of word ≡ 0 → i_immediate word ≡ code
     → DecodesByI word 0x0b 0 0 0 code → decode_of word ≡ Some (Terminate code)
+
+-- the words of the sample program decode to its instructions
+abbrev pub SampleTextIsTheSample : Type 0
+SampleTextIsTheSample = (number : ℕ) → AreWordsOf (sample_of number) (sample_text number)
 
 -- whatever the number and the hints, the program ends with code 0 after 26,011 steps: 8, 13 in each of 2,000 rounds, and 3
 abbrev pub SampleEnds : Type 0

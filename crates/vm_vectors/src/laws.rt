@@ -1,5 +1,5 @@
-//! Two laws on words that are made, and two on the sample program. Each function is empty: its contract is the law.
-ghost use Rattle.vm_vectors.specs.Laws.{AddiWordDecodes, TerminateWordDecodes, SampleEnds, SampleHasNoShaBlock};
+//! Two laws on words that are made, and three on the sample program. Each function is empty: its contract is the law.
+ghost use Rattle.vm_vectors.specs.Laws.{AddiWordDecodes, TerminateWordDecodes, SampleTextIsTheSample, SampleEnds, SampleHasNoShaBlock};
 
 /// What `i_word` makes with the fields of ADDI decodes to ADDI.
 pub fn addi_word_decodes()
@@ -9,6 +9,11 @@ pub fn addi_word_decodes()
 /// What `i_word` makes with the fields of terminate decodes to terminate.
 pub fn terminate_word_decodes()
     ensures { TerminateWordDecodes }
+{}
+
+/// The words of the sample program decode to its instructions, for every number.
+pub fn sample_text_is_the_sample()
+    ensures { SampleTextIsTheSample }
 {}
 
 /// The sample program ends with code 0 after 26,011 steps, for every number.
