@@ -10,7 +10,7 @@ use Rattle.elf_image.specs.Loaded.{word_of}
 use Rattle.rv_run.specs.Run.{Ends}
 use Rattle.vm_vectors.specs.ElfFile.{text_image}
 use Rattle.vm_vectors.specs.Makers.{DecodesByI}
-use Rattle.vm_vectors.specs.Sample.{AreWordsOf, sample_of, sample_base}
+use Rattle.vm_vectors.specs.Sample.{AreWordsOf, sample_of, sample_text, sample_base}
 
 -- ADDI, whose line fixes nothing but opcode and funct3
 abbrev pub AddiWordDecodes : Type 0
@@ -27,9 +27,13 @@ abbrev pub InstrHasOneWord : Type 0
 InstrHasOneWord = (word other : ℕ) (instr : Instr) → word < 2 ^ 32 → other < 2 ^ 32 → decode_of word ≡ Some instr → decode_of other ≡ Some instr
     → instr ≢ Fence → word ≡ other
 
--- a number has one sample program
+-- the words of the sample program decode to its instructions
+abbrev pub SampleTextIsTheSample : Type 0
+SampleTextIsTheSample = (number : ℕ) → AreWordsOf (sample_of number) (sample_text number)
+
+-- and no others do
 abbrev pub SampleIsOne : Type 0
-SampleIsOne = (number : ℕ) (words others : List ℕ) → AreWordsOf (sample_of number) words → AreWordsOf (sample_of number) others → words ≡ others
+SampleIsOne = (number : ℕ) (words : List ℕ) → AreWordsOf (sample_of number) words → words ≡ sample_text number
 
 -- whatever the number and the hints, the program ends with code 0 after 26,011 steps: 8, 13 in each of 2,000 rounds, and 3
 abbrev pub SampleEnds : Type 0

@@ -1,5 +1,5 @@
 //! Laws on words that are made, and on the sample program. Each function is empty: its contract is the law.
-ghost use Rattle.vm_vectors.specs.Laws.{AddiWordDecodes, TerminateWordDecodes, InstrHasOneWord, SampleIsOne, SampleEnds, SampleHasNoShaBlock};
+ghost use Rattle.vm_vectors.specs.Laws.{AddiWordDecodes, TerminateWordDecodes, InstrHasOneWord, SampleTextIsTheSample, SampleIsOne, SampleEnds, SampleHasNoShaBlock};
 
 /// What `i_word` makes with the fields of ADDI decodes to ADDI.
 pub fn addi_word_decodes()
@@ -16,7 +16,12 @@ pub fn instr_has_one_word()
     ensures { InstrHasOneWord }
 {}
 
-/// A number has one sample program.
+/// The words of the sample program decode to its instructions.
+pub fn sample_text_is_the_sample()
+    ensures { SampleTextIsTheSample }
+{}
+
+/// No other words do.
 pub fn sample_is_one()
     ensures { SampleIsOne }
 {}

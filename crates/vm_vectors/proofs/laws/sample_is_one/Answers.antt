@@ -1,4 +1,4 @@
-use Rattle.vm_vectors.proofs.SampleWords.{sample_is_one}
+use Rattle.vm_vectors.proofs.SampleIsOne.{sample_is_one}
 use Rattle.vm_vectors.proofs.laws.sample_is_one.Goals as goal
 
 pub returns : goal.returns
