@@ -29,7 +29,7 @@ all_fit words tested =
 
 -- the words that are the same for each number
 fixed_words : AreWordsOf (drop 2 (sample_of 0)) (drop 2 (sample_text 0))
-unfolding listing
+unfolding listing sample_text
 fixed_words = record { are_words = all_fit (drop 2 (sample_text 0)) refl; decoded = refl }
 
 -- the two that set x5 to the number
@@ -50,6 +50,7 @@ module _ (number : ℕ) where
   addi_is = addi_decodes _ 5 5 (low_part number) (i_decodes 0x13 0 5 5 (low_part number) (lit< tt) (lit< tt) (lit< tt) (lit< tt) low_is_extended)
 
 pub sample_text_is_the_sample : SampleTextIsTheSample
+unfolding sample_text
 sample_text_is_the_sample number =
     one_word _ _ (lui_word 5 (high_part number)) _ (u_fits 0x37 5 (high_part number) (lit< tt) (lit< tt)) (lui_is number)
     (one_word _ _ (addi_word 5 5 (low_part number)) _

@@ -89,7 +89,7 @@ sample_round_text =
 abbrev pub sample_end_text : List ℕ
 sample_end_text = reveal_word 0 5 0 ∷ reveal_word 0 11 4 ∷ reveal_word 0 15 8 ∷ terminate_word 0 ∷ []
 
-abbrev pub sample_text : ℕ → List ℕ
+unfoldable pub sample_text : ℕ → List ℕ
 sample_text number = sample_setup_text number ++ (sample_round_text ++ sample_end_text)
 
 -- where they stand

@@ -1,5 +1,5 @@
 use Rattle.std.proofs.Common.{◌≡◌, ℕ, List, [], ◌++◌, sym, ap, ◌∙◌, subst, append_assoc}
-use Rattle.vm_vectors.specs.Sample.{AreWordsOf, sample_of}
+use Rattle.vm_vectors.specs.Sample.{AreWordsOf, sample_of, sample_text}
 use Rattle.vm_vectors.proofs.SampleWords.{sample_text_is_the_sample}
 use Rattle.vm_vectors.proofs.sample.sample_words.Goals as goal
 
@@ -13,6 +13,7 @@ parts : (a b c x y z : List ℕ) → a ≡ x → b ≡ y → c ≡ z → a ++ (b
 parts a b c x y z p q r = cc
 
 pub returns-clause-text : goal.returns-clause-text
+unfolding sample_text
 returns-clause-text c =
     three_parts _ _ _ _ _ _ _ c.in_ok-words.ensures.items c.in_ok-extend_from_slice.ensures.items
     c.in_ok-extend_from_slice-2.ensures.items c.in_ok-extend_from_slice-3.ensures.items
