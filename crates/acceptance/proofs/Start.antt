@@ -76,7 +76,7 @@ start_blocks_are image = record {
 -- ---- public bytes
 
 -- the four elements from a place on, and what follows
-four_more : (xs : List ℕ) (k : ℕ) → k + 4 ≤ length xs → slice_index xs k ∷ slice_index xs (k + 1) ∷ slice_index xs (k + 2) ∷ slice_index xs (k + 3) ∷ drop (k + 4) xs ≡ drop k xs
+pub four_more : (xs : List ℕ) (k : ℕ) → k + 4 ≤ length xs → slice_index xs k ∷ slice_index xs (k + 1) ∷ slice_index xs (k + 2) ∷ slice_index xs (k + 3) ∷ drop (k + 4) xs ≡ drop k xs
 four_more [] k h = absurd (omega (arith, h))
 four_more (a ∷ []) zero h = absurd (omega (arith, h))
 four_more (a ∷ b ∷ []) zero h = absurd (omega (arith, h))
@@ -100,7 +100,7 @@ words_are xs a (suc n) size =
     ap (λ (ys : List ℕ). block_word xs a ++ ys) (words_are xs (a + 1) n (omega (arith, size)) ∙ ap (λ (k : ℕ). drop k xs) more)
     ∙ four_more xs (4 * a) (omega (arith, size))
 
-public_block : (m : Leaves) (blocks : Blocks) → AreBlocksOf m blocks → (j : ℕ) → j < 16 → blocks 3 (4 * j) ≡ block_word (m 25165824) j
+pub public_block : (m : Leaves) (blocks : Blocks) → AreBlocksOf m blocks → (j : ℕ) → j < 16 → blocks 3 (4 * j) ≡ block_word (m 25165824) j
 public_block m blocks are j low =
     let is : is_block 3 (4 * j) ≡ true = grind (arith, nat_tests) in
     let label : 8388608 * 3 + 4 * j / 64 ≡ 25165824 = omega (arith, low) in

@@ -82,7 +82,7 @@ goes_append program s t u m (suc n) first (before, reached, last) =
     subst (λ (k : ℕ). VmGoes program s k u) number (before, goes_append program s t before m n first reached, last)
 
 -- hints that are joined
-before_joined : (a b : List HintEvent) (rest : List ℕ) → hints_before (a ++ b) rest ≡ hints_before a (hints_before b rest)
+pub before_joined : (a b : List HintEvent) (rest : List ℕ) → hints_before (a ++ b) rest ≡ hints_before a (hints_before b rest)
 before_joined [] b rest = refl
 before_joined (Word word ∷ a) b rest = ap (λ (bytes : List ℕ). map low_byte word ++ bytes) (before_joined a b rest)
 before_joined (NextFrame ∷ a) b rest = before_joined a b rest

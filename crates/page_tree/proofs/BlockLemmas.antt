@@ -19,7 +19,7 @@ use Rattle.page_tree.proofs.TreeLemmas.{replaced-at, replaced-other, has-true, h
 use Rattle.page_tree.proofs.PartLemmas.{labelled_bytes-place, labels_of-place, length-labels_of}
 
 -- a block of a page is the same block of the leaf at its label
-block_of_label : (m : Leaves) (label block : ℕ) → block < 16 → map_block m (page_space label) (block_pointer label block) ≡ block_word (m label) block
+pub block_of_label : (m : Leaves) (label block : ℕ) → block < 16 → map_block m (page_space label) (block_pointer label block) ≡ block_word (m label) block
 block_of_label m label block small =
     let at : SPACE_PAGES * page_space label + block_pointer label block / 64 ≡ label = omega arith in
     let number : block_pointer label block % 64 / 4 ≡ block = omega arith in
@@ -41,13 +41,13 @@ contains_label pages page h =
     (λ k d low. subst (Contains (labels_of pages)) (labels_of-place pages k d low) (Contains-get_or (labels_of pages) k 0 (omega (arith, low, length-labels_of pages)))) h
 
 -- the page at a label among those of pages
-record PageAt (pages : List Touched) (label : ℕ) : Type 0 where
+pub record PageAt (pages : List Touched) (label : ℕ) : Type 0 where
   pub page : Touched
   pub stands : Contains pages page
   pub is_label : page.label ≡ label
   pub bytes : new_bytes_at pages label ≡ page.new
 
-page_at : (pages : List Touched) (label : ℕ) → IsStrictlyIncreasing (labels_of pages) → Contains (labels_of pages) label → PageAt pages label
+pub page_at : (pages : List Touched) (label : ℕ) → IsStrictlyIncreasing (labels_of pages) → Contains (labels_of pages) label → PageAt pages label
 unfolding new_bytes_at labels_of
 page_at pages label rising h =
     let d : Touched = record { label = 0; old = []; new = []; times = [] } in

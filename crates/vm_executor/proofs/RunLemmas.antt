@@ -58,7 +58,7 @@ refused : (i : VmInstr) (olds : List (List ℕ)) → i.op ≡ 41 → is_refused 
 unfolding is_refused
 refused i olds e = rw e refl
 
-no_end : (i : VmInstr) (olds : List (List ℕ)) (given : List ℕ) (m : Meaning) → i.op ≡ 41 → means_of i olds given ≡ Some m → ⊥
+pub no_end : (i : VmInstr) (olds : List (List ℕ)) (given : List ℕ) (m : Meaning) → i.op ≡ 41 → means_of i olds given ≡ Some m → ⊥
 no_end i olds given m e h = both_ways (is_refused i olds) (meant i olds given m h).fits (refused i olds e)
 
 some_row : (x y : VmInstr) → (Some x) ≡ (Some y) → x ≡ y

@@ -62,7 +62,7 @@ times_low bound (a ∷ xs) times low all =
     times_low bound xs (with_time times a.access.space a.access.pointer a.time)
     (λ s p. low_by bound a.time (times s p) (nat_eq s a.access.space && nat_eq p a.access.pointer) all.0 (low s p)) all.1
 
-placed_same : (x y : Placed) (xs ys : List Placed) → x ∷ xs ≡ y ∷ ys → (x ≡ y) × (xs ≡ ys)
+pub placed_same : (x y : Placed) (xs ys : List Placed) → x ∷ xs ≡ y ∷ ys → (x ≡ y) × (xs ≡ ys)
 placed_same x y xs ys h = (cc, cc)
 
 -- each access is after the one before, and in the time of the step

@@ -1,11 +1,11 @@
 -- The rows of a file's program are in range.
-use Rattle.std.proofs.Common.{◌≡◌, ℕ, ◌+◌, ◌^◌, ◌<◌, ◌≤◌, List, All, length, get_or, Option, None, Some, filter, ap, subst, arith, ⊎_elim, Any}
+use Rattle.std.proofs.Common.{◌≡◌, ℕ, ◌+◌, ◌^◌, ◌<◌, ◌≤◌, List, All, length, get_or, Option, None, Some, filter, refl, sym, ap, subst, arith, ⊎_elim, Any}
 use Rattle.std.specs.Prelude.{◌&&◌, IfSome, nat_lt}
 use Rattle.std.proofs.lemmas.List.Sorted.{All-permutation}
 use Rattle.std.proofs.lemmas.Bool.{and_parts, cases_lt}
-use Rattle.elf_image.specs.declared.ImageError.TheVariants.{SegmentSize, Range}
-use Rattle.elf_image.specs.Loaded.{Load, Loaded, word_in, gives}
-use Rattle.elf_image.specs.Elf.{load_headers}
+use Rattle.elf_image.specs.declared.ImageError.TheVariants.{SegmentSize, Range, Entry}
+use Rattle.elf_image.specs.Loaded.{Load, Loaded, word_in, word_of, gives}
+use Rattle.elf_image.specs.Elf.{e_entry, load_headers}
 use Rattle.elf_image.specs.Image.{HasImage, in_file, load_of}
 use Rattle.elf_image.proofs.Members.{In, in_at, in_map, in_from_filter, All_in, place_in}
 use Rattle.elf_image.proofs.Loads.{word_stands, gives_true, bytes_within}
@@ -50,14 +50,25 @@ image_low bytes loaded h load at =
     All_in Low loaded.loads (All-permutation Low (filter (λ (l : Load). nat_lt 0 l.size) (in_file bytes).loads) loaded.loads h.loads low) load at
 
 -- a text word stands in a load
-pub word_low : (bytes : List ℕ) (loaded : Loaded) (pc x : ℕ) → HasImage bytes loaded → word_in loaded.loads pc ≡ Some x → pc < 2 ^ 29
+low_in : (loads : List Load) (pc x : ℕ) → ((load : Load) → In load loads → Low load) → word_in loads pc ≡ Some x → pc < 2 ^ 29
 unfolding Low
-word_low bytes loaded pc x h e =
-    let at = word_stands loaded.loads pc x e in
-    let low : at.0.address + length at.0.bytes ≤ 2 ^ 29 = image_low bytes loaded h at.0 at.1 in
+low_in loads pc x lows e =
+    let at = word_stands loads pc x e in
+    let low : at.0.address + length at.0.bytes ≤ 2 ^ 29 = lows at.0 at.1 in
     let both = and_parts at.0.executable (gives at.0 pc && gives at.0 (pc + 3)) at.2 in
     let ends = gives_true at.0 (pc + 3) (and_parts (gives at.0 pc) (gives at.0 (pc + 3)) both.1).1 in
     omega (arith, low, ends.high)
+
+pub word_low : (bytes : List ℕ) (loaded : Loaded) (pc x : ℕ) → HasImage bytes loaded → word_in loaded.loads pc ≡ Some x → pc < 2 ^ 29
+word_low bytes loaded pc x h e = low_in loaded.loads pc x (image_low bytes loaded h) e
+
+-- and one stands at the entry
+entry_by : (bytes : List ℕ) (loaded : Loaded) → HasImage bytes loaded → (word : Option ℕ) → word_of (in_file bytes) (e_entry bytes) ≡ word → e_entry bytes < 2 ^ 29
+entry_by bytes loaded h None e = absurd (h.accepted Entry e)
+entry_by bytes loaded h (Some x) e = low_in (in_file bytes).loads (e_entry bytes) x (file_low bytes loaded h) (word_aligned (in_file bytes) (e_entry bytes) x e).1
+
+pub entry_low : (bytes : List ℕ) (loaded : Loaded) → HasImage bytes loaded → loaded.entry < 2 ^ 29
+entry_low bytes loaded h = subst (λ (n : ℕ). n < 2 ^ 29) (sym h.entry) (entry_by bytes loaded h (word_of (in_file bytes) (e_entry bytes)) refl)
 
 pub fields_in_range : (word : ℕ) (o : Option Instr) (instr : Instr) → IfSome o HasFieldsInRange → o ≡ Some instr → HasFieldsInRange instr
 fields_in_range word None instr h e = cc

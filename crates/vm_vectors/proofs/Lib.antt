@@ -1,8 +1,11 @@
 pub mod MakerLemmas
+pub mod WordFields
 pub mod Texts
 pub mod Files
 pub mod InstrWords
+pub mod OneWord
 pub mod SampleWords
+pub mod SampleIsOne
 pub mod TextPlaces
 pub mod SampleText
 pub mod SampleRun

@@ -1,4 +1,5 @@
 pub mod Laws
 pub mod Makers
+pub mod Words
 pub mod ElfFile
 pub mod Sample

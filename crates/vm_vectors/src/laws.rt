@@ -1,5 +1,5 @@
-//! Two laws on words that are made, and two on the sample program. Each function is empty: its contract is the law.
-ghost use Rattle.vm_vectors.specs.Laws.{AddiWordDecodes, TerminateWordDecodes, SampleEnds, SampleHasNoShaBlock};
+//! Laws on words that are made, and on the sample program. Each function is empty: its contract is the law.
+ghost use Rattle.vm_vectors.specs.Laws.{AddiWordDecodes, TerminateWordDecodes, InstrHasOneWord, SampleTextIsTheSample, SampleIsOne, SampleEnds, SampleHasNoShaBlock};
 
 /// What `i_word` makes with the fields of ADDI decodes to ADDI.
 pub fn addi_word_decodes()
@@ -9,6 +9,21 @@ pub fn addi_word_decodes()
 /// What `i_word` makes with the fields of terminate decodes to terminate.
 pub fn terminate_word_decodes()
     ensures { TerminateWordDecodes }
+{}
+
+/// An instruction but FENCE is that of one word.
+pub fn instr_has_one_word()
+    ensures { InstrHasOneWord }
+{}
+
+/// The words of the sample program decode to its instructions.
+pub fn sample_text_is_the_sample()
+    ensures { SampleTextIsTheSample }
+{}
+
+/// No other words do.
+pub fn sample_is_one()
+    ensures { SampleIsOne }
 {}
 
 /// The sample program ends with code 0 after 26,011 steps, for every number.

@@ -3,6 +3,7 @@
 
 ghost use Rattle.std.specs.Prelude.{◌≡◌, ◌-◌, ◌%◌, ◌≤◌, ◌<◌, ◌^◌};
 ghost use Rattle.rv_decode.specs.Bits.{bits, opcode_of, rd_of, funct3_of, rs1_of, rs2_of, funct7_of, i_immediate, s_immediate, b_immediate, u_immediate, j_immediate};
+ghost use Rattle.vm_vectors.specs.Words.{r_word_of, i_word_of, s_word_of, b_word_of, u_word_of, j_word_of};
 ghost use Rattle.vm_vectors.specs.Makers.{IsSignExtended, IsEvenSignExtended, DecodesByR, DecodesByI, DecodesByS, DecodesByB, DecodesByU, DecodesByJ};
 
 mod assembly;
@@ -27,6 +28,7 @@ pub fn r_word(opcode: u8, funct3: u8, funct7: u8, rd: u8, rs1: u8, rs2: u8) -> u
     requires rs1 { rs1 < 32 }
     requires rs2 { rs2 < 32 }
 
+    ensures word { result ≡ r_word_of opcode funct3 funct7 rd rs1 rs2 }
     ensures opcode { opcode_of result ≡ opcode }
     ensures rd { rd_of result ≡ rd }
     ensures funct3 { funct3_of result ≡ funct3 }
@@ -52,6 +54,7 @@ pub fn i_word(opcode: u8, funct3: u8, rd: u8, rs1: u8, imm: u32) -> u32
     requires rs1 { rs1 < 32 }
     requires imm { IsSignExtended 12 imm }
 
+    ensures word { result ≡ i_word_of opcode funct3 rd rs1 imm }
     ensures opcode { opcode_of result ≡ opcode }
     ensures rd { rd_of result ≡ rd }
     ensures funct3 { funct3_of result ≡ funct3 }
@@ -75,6 +78,7 @@ pub fn s_word(opcode: u8, funct3: u8, rs1: u8, rs2: u8, imm: u32) -> u32
     requires rs2 { rs2 < 32 }
     requires imm { IsSignExtended 12 imm }
 
+    ensures word { result ≡ s_word_of opcode funct3 rs1 rs2 imm }
     ensures opcode { opcode_of result ≡ opcode }
     ensures funct3 { funct3_of result ≡ funct3 }
     ensures rs1 { rs1_of result ≡ rs1 }
@@ -99,6 +103,7 @@ pub fn b_word(opcode: u8, funct3: u8, rs1: u8, rs2: u8, offset: u32) -> u32
     requires rs2 { rs2 < 32 }
     requires offset { IsEvenSignExtended 13 offset }
 
+    ensures word { result ≡ b_word_of opcode funct3 rs1 rs2 offset }
     ensures opcode { opcode_of result ≡ opcode }
     ensures funct3 { funct3_of result ≡ funct3 }
     ensures rs1 { rs1_of result ≡ rs1 }
@@ -123,6 +128,7 @@ pub fn u_word(opcode: u8, rd: u8, imm: u32) -> u32
     requires rd { rd < 32 }
     requires imm { imm % 2 ^ 12 ≡ 0 }
 
+    ensures word { result ≡ u_word_of opcode rd imm }
     ensures opcode { opcode_of result ≡ opcode }
     ensures rd { rd_of result ≡ rd }
     ensures imm { u_immediate result ≡ imm }
@@ -138,6 +144,7 @@ pub fn j_word(opcode: u8, rd: u8, offset: u32) -> u32
     requires rd { rd < 32 }
     requires offset { IsEvenSignExtended 21 offset }
 
+    ensures word { result ≡ j_word_of opcode rd offset }
     ensures opcode { opcode_of result ≡ opcode }
     ensures rd { rd_of result ≡ rd }
     ensures offset { j_immediate result ≡ offset }

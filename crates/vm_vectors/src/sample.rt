@@ -1,6 +1,6 @@
 // The sample program.
 ghost use Rattle.std.specs.Prelude.{◌≡◌, IfOk, vec_len};
-ghost use Rattle.vm_vectors.specs.Sample.{AreWordsOf, sample_of, sample_setup, sample_round, sample_end};
+ghost use Rattle.vm_vectors.specs.Sample.{AreWordsOf, sample_of, sample_text, sample_setup_text, sample_round_text, sample_end_text};
 
 use crate::assembly::{
     add, addi, andi, bne, divu, lui, lw, mul, reveal, sltu, srli, sw, terminate, xor,
@@ -9,7 +9,7 @@ use std::alloc::{AllocError, Global};
 use vm_word::arithmetic::sign_extend;
 
 fn setup_words(number: u32) -> [u32; 8]
-    ensures { AreWordsOf (sample_setup number) result }
+    ensures { result ≡ sample_setup_text number }
 {
     let low = sign_extend(12, number % (1 << 12));
     [
@@ -25,7 +25,7 @@ fn setup_words(number: u32) -> [u32; 8]
 }
 
 fn round_words() -> [u32; 13]
-    ensures { AreWordsOf sample_round result }
+    ensures { result ≡ sample_round_text }
 {
     [
         mul(5, 5, 6),
@@ -45,7 +45,7 @@ fn round_words() -> [u32; 13]
 }
 
 fn end_words() -> [u32; 4]
-    ensures { AreWordsOf sample_end result }
+    ensures { result ≡ sample_end_text }
 {
     [
         reveal(0, 5, 0),
@@ -58,6 +58,7 @@ fn end_words() -> [u32; 4]
 /// The 25 words of the sample program for a number: 2,000 rounds of a generator that begins with it. Its text stands at
 /// 0x1000, and it takes no hints.
 pub fn sample_words(alloc: Global, number: u32) -> Result<Vec<u32>, AllocError>
+    ensures text { IfOk result (λ words. words.items ≡ sample_text number) }
     ensures words { IfOk result (λ words. AreWordsOf (sample_of number) words.items) }
     ensures count { IfOk result (λ words. vec_len words ≡ 25) }
 {

@@ -1,0 +1,17 @@
+pub mod Going
+pub mod Lengths
+pub mod OneWay
+pub mod HintLemmas
+pub mod StepLemmas
+pub mod LeafLemmas
+pub mod ChainLemmas
+pub mod SegmentLemmas
+pub mod EndLemmas
+pub mod PutLemmas
+pub mod Takes
+pub mod TreePuts
+pub mod Making
+pub mod Writes
+pub mod Chapters
+pub mod WrittenLemmas
+pub mod Whole
