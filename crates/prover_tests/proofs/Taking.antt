@@ -21,9 +21,9 @@ use Rattle.vm_executor.specs.Machine.{Machine, begun, Goes}
 use Rattle.vm_executor.specs.State.{IsStep}
 use Rattle.vm_executor.specs.Records.{AreRecords}
 use Rattle.vm_executor.proofs.SinceLemmas.{since_begun, since_more, since_records, step_fillable}
-use Rattle.prover_tests.specs.Taken.{AreTaken}
+use Rattle.prover_tests.specs.TookSteps.{TookSteps}
 
-pub taken_none : (program : List VmInstr) (m : Machine) → m.hints ≡ [] → AreTaken program m.pc 0 [] (begun m)
+pub taken_none : (program : List VmInstr) (m : Machine) → m.hints ≡ [] → TookSteps program m.pc 0 [] (begun m)
 taken_none program m none = record { since = since_begun program m; few = omega arith; fillable = tt; owned = tt; in_time = omega arith; none = none }
 
 few_by : (a b c d : Bool) → (if a then 3 else if b then 2 else if c then 1 else if d then 26 else 0) ≤ 26
@@ -56,8 +56,8 @@ no_more n xs none = rw none (empty n)
     empty : (n : ℕ) → drop {A = ℕ} n [] ≡ []
     empty n = search rules
 
-pub taken_more : (program : List VmInstr) (pc n : ℕ) (done : List StepRecord) (s t : Machine) (d : StepRecord) → All InRange program → n < 16384 → AreTaken program pc n done s → Goes program s t d
-    → AreTaken program pc (n + 1) (done ++ d ∷ []) t
+pub taken_more : (program : List VmInstr) (pc n : ℕ) (done : List StepRecord) (s t : Machine) (d : StepRecord) → All InRange program → n < 16384 → TookSteps program pc n done s → Goes program s t d
+    → TookSteps program pc (n + 1) (done ++ d ∷ []) t
 taken_more program pc n done s t d range few taken goes =
     let bytes : IsBytes s.hints = subst IsBytes (sym taken.none) tt in
     let ends : s.time + slots_of d.instr.op ≤ 2 ^ 24 = omega (arith, slots_few d.instr.op, taken.in_time, few) in
@@ -71,12 +71,12 @@ taken_more program pc n done s t d range few taken goes =
       none = ap (λ (m : Machine). m.hints) goes.after ∙ no_more _ s.hints taken.none;
     }
 
-pub taken_same : (program : List VmInstr) (pc n : ℕ) (done : List StepRecord) (s t : Machine) → t ≡ s → AreTaken program pc n done s → AreTaken program pc (n + 1) done t
+pub taken_same : (program : List VmInstr) (pc n : ℕ) (done : List StepRecord) (s t : Machine) → t ≡ s → TookSteps program pc n done s → TookSteps program pc (n + 1) done t
 taken_same program pc n done s t same taken =
-    subst (AreTaken program pc (n + 1) done) (sym same)
+    subst (TookSteps program pc (n + 1) done) (sym same)
     (record { since = taken.since; few = omega (arith, taken.few); fillable = taken.fillable; owned = taken.owned; in_time = omega (arith, taken.in_time); none = taken.none })
 
-pub taken_records : (program : List VmInstr) (pc n : ℕ) (done : List StepRecord) (m : Machine) → n ≤ 16384 → AreTaken program pc n done m → AreRecords (full 8) program pc done
+pub taken_records : (program : List VmInstr) (pc n : ℕ) (done : List StepRecord) (m : Machine) → n ≤ 16384 → TookSteps program pc n done m → AreRecords (full 8) program pc done
 taken_records program pc n done m few taken = since_records (full 8) program pc done m taken.since (omega (arith, taken.few, few)) taken.owned taken.fillable
 
 -- an answer that is no step leaves the machine

@@ -1,6 +1,6 @@
 //! The tables of one ADDI, whose counts were put down by hand.
 
-use crate::records::take_records;
+use crate::records::records_of_steps;
 use elf_image::read_image;
 use std::test::Fail;
 use vm_config::full;
@@ -26,7 +26,7 @@ fn one_addition(rt: HostRuntime) -> Result<(), Fail> {
     let program = transpile(alloc, &image)?;
     program.rows_are_in_range();
     let mut machine = Machine::new(alloc, &program, &image, Vec::new(alloc));
-    let records = take_records(alloc, &mut machine, 1)?;
+    let records = records_of_steps(alloc, &mut machine, 1)?;
     let tables = fill_segment(alloc, &full(), &program, &records)?;
     for table in 0..tables.tables() {
         let height = if table == 0 { 1 } else { 0 };

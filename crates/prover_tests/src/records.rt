@@ -10,7 +10,7 @@ use vm_executor::{Machine, Machined};
 use vm_isa::StepRecord;
 
 /// The records of a segment of at most so many steps. It ends where the machine has no step.
-pub fn take_records(
+pub fn records_of_steps(
     alloc: Global,
     machine: &mut Machine<'_>,
     count: u32,

@@ -9,7 +9,7 @@ use Rattle.vm_config.specs.Config.{full}
 use Rattle.vm_executor.specs.Machine.{Machine, Since}
 
 -- they are those since its segment began, of at most so many steps, and all tables can be filled from them
-pub record AreTaken (program : List VmInstr) (pc : ℕ) (steps : ℕ) (done : List StepRecord) (m : Machine) : Type 0 where
+pub record TookSteps (program : List VmInstr) (pc : ℕ) (steps : ℕ) (done : List StepRecord) (m : Machine) : Type 0 where
   pub since : Since program pc done m
   pub few : length done ≤ steps
   pub fillable : AllByRecursion (Fillable 24) done
