@@ -17,9 +17,6 @@ out_by x fits rows table low some d (Some t) is other = other_rows x fits rows d
 pub out_of : (x : System) → ExtensionFits x → ExtensionRows x → (table : ℕ) → table < length x.parts → ((sheet_at x table).slots ≡ 0 → ⊥) → (d : StepRecord) → (owner_in x.parts d.instr.op ≡ Some table → ⊥) → rows_at x table d ≡ 0
 out_of x fits rows table low some d other = out_by x fits rows table low (omega (arith, some)) d (owner_in x.parts d.instr.op) refl other
 
-pub keeps_none : (x : System) (table : ℕ) → KeepsOut x table []
-keeps_none x table d h = absurd (cc)
-
 -- one opcode more
 pub keeps_more : (x : System) (table : ℕ) (takes : List Bool) (b : Bool) → KeepsOut x table takes → ((d : StepRecord) → d.instr.op ≡ length takes → b ≡ false → rows_at x table d ≡ 0) → KeepsOut x table (takes ++ b ∷ [])
 keeps_more x table takes b keeps here d h =
