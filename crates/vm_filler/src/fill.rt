@@ -53,7 +53,8 @@ fn fill_record<E: Extension>(
     requires few { length (table_at tables.old table).rows + 64 ≤ 2 ^ 24 }
     requires room { 2 ^ 14 ≤ events_left lookups.old }
     ensures rows { OnOk result (tables.new ≡ with_rows tables.old table (rows_of done.now (part_at (E.system ext.now) table))) }
-    ensures counted { OnOk result (Handed CountLookups events_left lookups.old lookups.new (flat_map (row_events (sheet_at (E.system ext.now) table)) (rows_of done.now (part_at (E.system ext.now) table)))) }
+    ensures counted { OnOk result (Handed CountLookups events_left lookups.old lookups.new
+        (flat_map (row_events (sheet_at (E.system ext.now) table)) (rows_of done.now (part_at (E.system ext.now) table)))) }
     ensures wide { length row.new ≡ length row.old }
 {
     if !takes[done.instr.op as usize] {
@@ -101,7 +102,8 @@ fn fill_records<E: Extension>(
     requires fillable { AllByRecursion (λ d. Fillable (E.system ext.now).time_bits d) records.now }
     requires room { 2 ^ 30 ≤ events_left lookups.old }
     ensures rows { OnOk result (tables.new ≡ with_rows tables.old table (filled_rows records.now (part_at (E.system ext.now) table))) }
-    ensures counted { OnOk result (Handed CountLookups events_left lookups.old lookups.new (flat_map (row_events (sheet_at (E.system ext.now) table)) (filled_rows records.now (part_at (E.system ext.now) table)))) }
+    ensures counted { OnOk result (Handed CountLookups events_left lookups.old lookups.new
+        (flat_map (row_events (sheet_at (E.system ext.now) table)) (filled_rows records.now (part_at (E.system ext.now) table)))) }
 {
     for done in records {
         fill_record(ext, table, takes, done, row, tables, lookups)?;
@@ -114,7 +116,8 @@ fn pad(table: u32, zeros: &[Fe], tables: &mut Tables) -> Result<(), OutOfMemory>
     requires in_tables { table < length tables.old.tables }
     requires wide { length zeros.now ≡ (table_at tables.old table).width }
     requires few { length (table_at tables.old table).rows ≤ 2 ^ 22 }
-    ensures { OnOk result ((more : ℕ) × IsHeight (length (table_at tables.old table).rows) (length (table_at tables.old table).rows + more) × (tables.new ≡ with_rows tables.old table (replicate more zeros.now))) }
+    ensures { OnOk result ((more : ℕ) × IsHeight (length (table_at tables.old table).rows) (length (table_at tables.old table).rows + more)
+        × (tables.new ≡ with_rows tables.old table (replicate more zeros.now))) }
 {
     let rows = tables.height(table);
     for _ in rows..height_of(rows) {
