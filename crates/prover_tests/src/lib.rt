@@ -3,3 +3,4 @@
 
 #[cfg(test)]
 mod one_addition;
+pub mod records;

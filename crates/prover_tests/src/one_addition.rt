@@ -1,11 +1,11 @@
 //! The tables of one ADDI, whose counts were put down by hand.
 
-use air_core::Single;
-use chip_alu::Alu;
+use crate::records::records_of_steps;
 use elf_image::read_image;
 use std::test::Fail;
+use vm_config::full;
+use vm_executor::Machine;
 use vm_filler::fill_segment;
-use vm_isa::{Access, AccessList, StepRecord, TimedAccess};
 use vm_trace::{CountEntry, CountList};
 use vm_transpile::transpile;
 use vm_vectors::elf_of;
@@ -18,39 +18,20 @@ const COUNTS: [(CountList, &'static [(u32, u32)]); 4] = [
     (CountList::ShaConst, &[]),
 ];
 
-fn access(pointer: u32, old: [u8; 4], new: [u8; 4], time: u32) -> TimedAccess {
-    TimedAccess {
-        access: Access {
-            space: 1,
-            pointer,
-            old,
-            new,
-        },
-        time,
-        before: 0,
-    }
-}
-
 // ADDI x5, x0, 7 before a TERMINATE: x0 is read at time 1, and x5 written at time 3.
 #[test]
 fn one_addition(rt: HostRuntime) -> Result<(), Fail> {
     let alloc = rt.alloc();
-    let bytes = elf_of(alloc, 0x1000, &[0x0070_0293, 0x0000_000B])?;
-    let image = read_image(alloc, &bytes)?;
+    let image = read_image(alloc, &elf_of(alloc, 0x1000, &[0x0070_0293, 0x0000_000B])?)?;
     let program = transpile(alloc, &image)?;
-    let instr = program.at(0).expect(&rt, "a row");
-    let mut accesses = AccessList::new(alloc);
-    accesses.push(access(0, [0; 4], [0; 4], 1))?;
-    accesses.push(access(20, [0; 4], [7, 0, 0, 0], 3))?;
-    let mut records = Vec::new(alloc);
-    records.push(StepRecord {
-        instr,
-        time: 1,
-        accesses,
-        next: 0x1004,
-    })?;
-    let tables = fill_segment(alloc, &Single::new(Alu::new()), &program, &records)?;
-    assert_eq!(rt; tables.height(0), 1);
+    program.rows_are_in_range();
+    let mut machine = Machine::new(alloc, &program, &image, Vec::new(alloc));
+    let records = records_of_steps(alloc, &mut machine, 1)?;
+    let tables = fill_segment(alloc, &full(), &program, &records)?;
+    for table in 0..tables.tables() {
+        let height = if table == 0 { 1 } else { 0 };
+        assert_eq!(rt; tables.height(table), height, "table {table}");
+    }
     for (list, counts) in COUNTS {
         let mut entries = Vec::new(alloc);
         for (place, count) in counts {

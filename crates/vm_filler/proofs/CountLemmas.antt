@@ -1,15 +1,14 @@
 -- Counts of the lookup tables' rows, with an event more.
-use Rattle.std.proofs.Common.{◌≡◌, ◌≢◌, ℕ, zero, suc, ◌+◌, ◌<◌, ◌≤◌, Bool, true, false, cond, List, [], ◌∷◌, ◌++◌, length, slice_index, set, replicate, min, refl, sym, ap, ◌∙◌, subst, arith, ⊎_elim, inl, inr}
+use Rattle.std.proofs.Common.{◌≡◌, ◌≢◌, ℕ, zero, suc, ◌+◌, ◌<◌, Bool, true, false, cond, List, [], ◌∷◌, ◌++◌, length, slice_index, set, replicate, min, refl, sym, ap, ◌∙◌, subst, arith, ⊎_elim, inl, inr}
 use Rattle.std.proofs.lemmas.Bool.{cases_eq}
 use Rattle.std.proofs.lemmas.List.{get_or-set_same, get_or-set_other}
 use Rattle.air_core.specs.declared.event.Event.{Event}
 use Rattle.air_core.specs.declared.event.Side.TheVariants.{Send}
 use Rattle.air_core.specs.Balance.{is_at, amount_at, total}
-use Rattle.air_core.specs.Sink.{Handed}
 use Rattle.air_core.proofs.BalanceLemmas.{total-append, total-cons, there_of_test, test_of_there}
 use Rattle.lookup_tables.specs.Places.{IsRowAt}
 use Rattle.lookup_tables.proofs.PlaceLemmas.{bus_cases, one_place, one_row, rows_below}
-use Rattle.vm_filler.specs.Lookups.{LookupCounts, AreSized, CountsSent, CountLookups, events_left, most, used_at, used_on}
+use Rattle.vm_filler.specs.Lookups.{LookupCounts, AreSized, CountsSent, CountLookups, most, used_at, used_on}
 
 last_total : (bus : ℕ) (tuple : List ℕ) (events : List Event) (e : Event) → total Send bus tuple (events ++ e ∷ []) ≡ total Send bus tuple events + amount_at Send bus tuple e
 last_total bus tuple events e = omega (arith, total-append Send bus tuple events (e ∷ []), total-cons Send bus tuple e [])
@@ -124,11 +123,3 @@ zero_at (suc n) (suc k) = zero_at n k
 -- the counts of no events
 pub counts_none : (bus n : ℕ) (counts : List ℕ) → counts ≡ replicate n 0 → CountsSent bus [] counts
 counts_none bus n counts is = record { at = λ place tuple at. ap (λ (c : List ℕ). slice_index c place) is ∙ zero_at n place }
-
--- an event was taken
-pub one_taken : (c : LookupCounts) (d : LookupCounts) (e : Event) → 1 ≤ events_left c → ((events : List Event) → CountLookups c events → CountLookups d (events ++ e ∷ [])) → d.taken ≡ c.taken
-    → Handed CountLookups events_left c (record { xor = d.xor; range = d.range; constants = d.constants; taken = d.taken + 1 }) (e ∷ [])
-one_taken c d e room counted same = record {
-  lists = λ events h. let k = counted events h in record { xor = k.xor; range = k.range; constants = k.constants };
-  used = omega (arith, room, same);
-}

@@ -20,3 +20,4 @@ mod RowsLemmas
 mod TablesLemmas
 mod PushLemmas
 mod SegmentLemmas
+mod TakenLemmas

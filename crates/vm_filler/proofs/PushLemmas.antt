@@ -173,10 +173,3 @@ count_room program rises done i d counts k read low is stand found size value co
   where
     some_place : (a b : ℕ) → ◌≡◌ {A = Option ℕ} (Some a) (Some b) → a ≡ b
     some_place a b h = cc
-
-pub place_low : (program : List VmInstr) → RisesFrom 0 program → (done : List StepRecord) (i : ℕ) (d : StepRecord) (k : ℕ) → i < length done → d ≡ get_or done i d
-    → AllByRecursion (λ e. Contains program e.instr) done → position (λ (row : VmInstr). row.pc == d.instr.pc) program ≡ Some k → k < length program
-place_low program rises done i d k low is stand found =
-    let place = stands_at program rises d (record_stands program done i d stand low is) in
-    let same : place.0 ≡ k = (let h : ◌≡◌ {A = Option ℕ} (Some place.0) (Some k) = sym place.1.found ∙ found in cc) in
-    omega (arith, same, place.1.low)

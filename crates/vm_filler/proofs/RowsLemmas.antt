@@ -1,17 +1,16 @@
 -- Tables with rows more, and the rows that are filled.
-use Rattle.std.proofs.Common.{◌≡◌, ℕ, zero, suc, ◌+◌, ◌*◌, ◌<◌, ◌≤◌, true, List, [], ◌∷◌, ◌++◌, map, set, get_or, slice_index_or, length, length-append, append-nil, append_assoc, refl, sym, ap, ◌∙◌, subst, arith}
+use Rattle.std.proofs.Common.{◌≡◌, ℕ, zero, suc, ◌+◌, ◌*◌, ◌<◌, ◌≤◌, List, [], ◌∷◌, ◌++◌, map, set, get_or, length, length-append, append-nil, append_assoc, refl, sym, ap, ◌∙◌, subst, arith}
 use Rattle.std.specs.Prelude.{flat_map, replicate, take}
-use Rattle.std.specs.List.{AllByRecursion, range_with_len}
+use Rattle.std.specs.List.{range_with_len}
 use Rattle.std.proofs.lemmas.List.{get_or-set_same, set-get_or, length-set, take_more, take_all}
 use Rattle.std.proofs.lemmas.Grind.{flat_map-append}
 use Rattle.std.proofs.lemmas.List.FromFn.{length-map-range_with_len}
 use Rattle.vm_isa.specs.declared.record.StepRecord.{StepRecord}
-use Rattle.vm_isa.specs.Means.{Fillable}
 use Rattle.air_core.specs.declared.event.Event.{Event}
 use Rattle.vm_trace.specs.Contents.{Contents, TableRows, table_at, with_last, with_row}
-use Rattle.air_core.specs.ExtensionLaws.{ExtensionBuses, ExtensionComplete, ExtensionRows, PartRows}
+use Rattle.air_core.specs.ExtensionLaws.{ExtensionBuses, ExtensionRows, PartRows}
 use Rattle.air_core.specs.Sheet.{Sheet, row_events}
-use Rattle.air_core.specs.System.{System, Part, part_at, sheet_at, is_owned, EachRow, GoodRow, rows_of, tables_for}
+use Rattle.air_core.specs.System.{System, Part, part_at, sheet_at, rows_of}
 use Rattle.air_core.proofs.ExtensionLemmas.{few_events, part_has}
 use Rattle.air_core.specs.Sink.{Handed}
 use Rattle.vm_filler.specs.Tables.{filled_rows, zero_row, IsHeight}
@@ -74,24 +73,6 @@ rows_events_few x buses table [] = omega arith
 rows_events_few x buses table (row ∷ rows) =
     omega (arith, length-append (row_events (sheet_at x table) row) (flat_map (row_events (sheet_at x table)) rows), few_events x buses table row, rows_events_few x buses table rows)
 
-each_at : (P : Sheet → List ℕ → Type 0) (done : StepRecord) (parts : List Part) (table : ℕ) (none : Part) → EachRow P parts (tables_for done parts) → table < length parts
-    → AllByRecursion (P (slice_index_or parts table none).sheet) (rows_of done (slice_index_or parts table none))
-each_at P done [] table none h low = absurd (omega (arith, low))
-each_at P done (p ∷ parts) zero none h low = h.0
-each_at P done (p ∷ parts) (suc table) none h low = each_at P done parts table none h.1 (omega (arith, low))
-
-range_at : (P : List ℕ → Type 0) (f : ℕ → List ℕ) (from n place : ℕ) → AllByRecursion P (map f (range_with_len from n)) → place < n → P (f (from + place))
-range_at P f from zero place h low = absurd (omega (arith, low))
-range_at P f from (suc n) zero h low = subst (λ (k : ℕ). P (f k)) (omega arith) h.0
-range_at P f from (suc n) (suc place) h low = subst (λ (k : ℕ). P (f k)) (omega arith) (range_at P f (from + 1) n place h.1 (omega (arith, low)))
-
--- the row that a record fills at a place of a table is good
-pub filled_good : (x : System) → ExtensionComplete x → (done : StepRecord) (table place : ℕ) → is_owned x.parts done.instr.op ≡ true → Fillable x.time_bits done → table < length x.parts → place < (part_at x table).rows_for done
-    → GoodRow (sheet_at x table) ((sheet_at x table).filled done place)
-filled_good x complete done table place owned fillable low below =
-    let all = each_at GoodRow done x.parts table _ (complete done owned fillable).rows low in
-    subst (λ (k : ℕ). GoodRow (sheet_at x table) ((sheet_at x table).filled done k)) (omega arith) (range_at (GoodRow (sheet_at x table)) ((sheet_at x table).filled done) 0 ((part_at x table).rows_for done) place all below)
-
 -- the rows of the first places
 abbrev pub rows_to : Sheet → StepRecord → ℕ → List (List ℕ)
 rows_to sheet done place = map (λ k. sheet.filled done k) (range_with_len 0 place)
@@ -131,11 +112,6 @@ few_to (d ∷ done) p rows (suc i) = omega (arith, length-append (rows_of d p) (
 -- the first records fill at most 64 rows each
 pub rows_few : (x : System) → ExtensionRows x → (done : List StepRecord) (table i : ℕ) → table < length x.parts → length (filled_rows (take i done) (part_at x table)) ≤ 64 * i
 rows_few x rows done table i low = few_to done (part_at x table) (part_has PartRows x.parts table rows.parts low) i
-
-pub all_index : (P : StepRecord → Type 0) (done : List StepRecord) (i : ℕ) (d : StepRecord) → AllByRecursion P done → i < length done → d ≡ get_or done i d → P d
-all_index P [] i d h low is = absurd (omega (arith, low))
-all_index P (e ∷ done) zero d h low is = subst P (sym is) h.0
-all_index P (e ∷ done) (suc i) d h low is = all_index P done i d h.1 (omega (arith, low)) is
 
 pub said_rows : (sheet : Sheet) (xs ys : List (List ℕ)) → flat_map (row_events sheet) (xs ++ ys) ≡ flat_map (row_events sheet) xs ++ flat_map (row_events sheet) ys
 said_rows sheet xs ys = flat_map-append (row_events sheet) xs ys

@@ -1,5 +1,6 @@
 -- Rows and entries that are put into tables one after another.
-use Rattle.std.specs.Prelude.{◌≡◌, ℕ, ◌*◌, ◌^◌, ◌≤◌, nat_eq, List, [], ◌∷◌, ◌++◌, map, flat_map, set, slice_index, take, drop, length, Some}
+use Rattle.std.specs.Prelude.{◌≡◌, ℕ, ◌*◌, ◌^◌, ◌≤◌, nat_eq, Bool, true, false}
+use Rattle.std.specs.Prelude.{List, [], ◌∷◌, ◌++◌, map, flat_map, set, slice_index, slice_index_or, take, drop, length, Some}
 use Rattle.std.specs.Cmp.Lexicographic.{pointwise}
 use Rattle.vm_isa.specs.declared.instr.VmInstr.{VmInstr}
 use Rattle.vm_isa.specs.declared.record.StepRecord.{StepRecord}
@@ -12,12 +13,16 @@ use Rattle.air_core.specs.declared.bus.TheConstants.{PROGRAM}
 use Rattle.air_core.specs.Counts.{weight, once}
 use Rattle.air_core.specs.Sheet.{row_events}
 use Rattle.air_core.specs.Sink.{Handed}
-use Rattle.air_core.specs.System.{System, Part, part_at, sheet_at, all_events}
+use Rattle.air_core.specs.System.{System, Part, part_at, sheet_at, rows_at, all_events}
 use Rattle.acceptance.specs.Events.{fixed_row}
 use Rattle.vm_filler.specs.Lookups.{LookupCounts, CountLookups, events_left}
 use Rattle.vm_filler.specs.Tables.{IsFilledTable, AreFilledTables, filled_rows}
 
 -- ---- rows
+
+-- records of an opcode that is marked false here fill no row of a table
+abbrev pub KeepsOut : System → ℕ → List Bool → Type 0
+KeepsOut x table takes = (d : StepRecord) → slice_index_or takes d.instr.op true ≡ false → rows_at x table d ≡ 0
 
 -- with these rows behind the last of a table
 abbrev pub with_rows : Contents → ℕ → List (List ℕ) → Contents

@@ -19,5 +19,5 @@ pub returns : goal.returns
 returns g c =
     let x = g.E.Extension.system c.args.ext.now in
     table_filled x (g.met.E.Extension.buses c.args.ext.now) (g.met.E.Extension.rows c.args.ext.now) c.args.records.now c.args.table c.args.tables.now c.fill_records.new.tables c.pad.new.tables
-    c.args.lookups.now c.fill_records.new.lookups c.deref.result.now c.requires.known c.requires.in_tables c.requires.few c.requires.none c.in_ok-fill_records.ensures.rows c.in_ok-fill_records.ensures.counted
-    (c.deref.ensures.value ∙ c.in_ok-zeros.ensures.items_if_clones_equal (λ y e. e) ∙ ap (λ (n : ℕ). replicate n 0) c.width-2.ensures) c.in_ok-pad.ensures
+    c.args.lookups.now c.fill_records.new.lookups c.deref-2.result.now c.requires.known c.requires.in_tables c.requires.few c.requires.none c.in_ok-fill_records.ensures.rows c.in_ok-fill_records.ensures.counted
+    (c.deref-2.ensures.value ∙ c.in_ok-zeros.ensures.items_if_clones_equal (λ y e. e) ∙ ap (λ (n : ℕ). replicate n 0) c.width-2.ensures) c.in_ok-pad.ensures
