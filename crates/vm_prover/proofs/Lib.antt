@@ -15,3 +15,5 @@ pub mod Writes
 pub mod Chapters
 pub mod WrittenLemmas
 pub mod Whole
+pub mod PlainCut
+pub mod PlainRun

@@ -86,7 +86,7 @@ traps_there loaded hints per trap t =
     let last : t.traps.last ≡ t.cuts.last = last_is loaded hints per t.steps t.lengths t.traps.last t.cuts t.traps.reached in
     subst (λ m. step_of loaded m ≡ traps trap) last t.traps.trapped
 
-two_ends : (loaded : Loaded) (hints : List ℕ) (per n k : ℕ) (lengths others : List ℕ) (code other : ℕ) (shown too : List ℕ) → EndsCut loaded hints per n lengths code shown → EndsCut loaded hints per k others other too
+pub two_ends : (loaded : Loaded) (hints : List ℕ) (per n k : ℕ) (lengths others : List ℕ) (code other : ℕ) (shown too : List ℕ) → EndsCut loaded hints per n lengths code shown → EndsCut loaded hints per k others other too
     → (n ≡ k) × (lengths ≡ others) × (code ≡ other) × (shown ≡ too)
 two_ends loaded hints per n k lengths others code other shown too a b =
     let x = ends_there loaded hints per n lengths code shown a in

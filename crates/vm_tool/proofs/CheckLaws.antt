@@ -1,15 +1,17 @@
 -- What status 0 of `check` says.
-use Rattle.std.proofs.Common.{◌≡◌, ℕ, List, [], ◌∷◌, length, true, refl, sym, ap, ◌∙◌, subst, Some}
+use Rattle.std.proofs.Common.{◌≡◌, ◌⊎◌, ℕ, ◌≤◌, List, [], ◌∷◌, length, true, refl, sym, ap, ◌∙◌, subst, Some}
 use Rattle.std.specs.declared.option.Option.{Option}
 use Rattle.std.specs.Option.{option_map}
 use Rattle.hex.specs.Hex.{encode_lower}
 use Rattle.vm_host.specs.declared.Slot.{Slot}
 use Rattle.vm_host.specs.declared.Slot.TheVariants.{Elf, Second}
 use Rattle.vm_host.specs.State.{HostState, then_more}
+use Rattle.vm_host.specs.Calls.{Rose}
 use Rattle.elf_image.specs.Loaded.{Loaded}
 use Rattle.elf_image.specs.Image.{HasImage}
 use Rattle.vm_trace.specs.File.{File}
 use Rattle.acceptance.specs.Spelled.{hints_before}
+use Rattle.vm_prover.specs.Survey.{EndsCut}
 use Rattle.vm_checker.specs.declared.Accepted.{Accepted as Acceptance}
 use Rattle.vm_checker.specs.declared.Verdict.{Verdict}
 use Rattle.vm_checker.specs.declared.Verdict.TheVariants as verdict
@@ -21,12 +23,13 @@ use Rattle.vm_tool.specs.declared.answer.Halt.TheVariants.{Found}
 use Rattle.vm_tool.specs.declared.answer.Status.{Status}
 use Rattle.vm_tool.specs.declared.answer.Status.TheVariants as status
 use Rattle.vm_tool.specs.Answer.{line_of_accepted, status_of, text_of}
-use Rattle.vm_tool.specs.Command.{Command, Means, check}
-use Rattle.vm_tool.specs.Files.{OverElf, elf_refused, over_image}
+use Rattle.vm_tool.specs.Command.{Command, Means, check, prove}
+use Rattle.vm_tool.specs.Files.{MAX_FILE, GivesImage, OverElf, elf_refused, over_image}
 use Rattle.vm_tool.specs.CheckCommand.{answer_of_verdict, CheckAnswers}
-use Rattle.vm_tool.specs.Headline.{RunsAsSaid, Headline}
+use Rattle.vm_tool.specs.Headline.{RunsAsSaid, ProvedAsSaid, Headline}
 use Rattle.vm_tool.specs.Outcome.{Answers, Outcome, answered, fault, memory}
 use Rattle.vm_tool.specs.Tables.{program_tables}
+use Rattle.vm_tool.proofs.ProveLaws.{ending_run_is_proved}
 use Rattle.vm_tool.proofs.Stages.{elf_not_done}
 use Rattle.vm_tool.proofs.Quiet.{told_is}
 use Rattle.vm_tool.proofs.LawLemmas.{meaning_is_one}
@@ -83,10 +86,26 @@ said_by elf elf_name tables tables_name inputs old new one two (answered found s
 said_by elf elf_name tables tables_name inputs old new one two (fault is rose part leaves) = absurd (cc (is))
 said_by elf elf_name tables tables_name inputs old new one two (memory is part leaves) = absurd (cc (is))
 
+proved_by : (elf hints out : List ℕ) (inputs : Slot → List ℕ) (per_segment : ℕ) (old new : HostState) (result : Status) (lengths : List ℕ) (steps code : ℕ) (shown : List ℕ) (loaded : Loaded) (e h : List ℕ)
+    → e ≡ inputs Elf → h ≡ inputs Second → length e ≤ MAX_FILE → length h ≤ MAX_FILE → HasImage e loaded → EndsCut loaded h per_segment steps lengths code shown
+    → old.content Elf elf ≡ Some e → old.content Second hints ≡ Some h → (Rose old.faults new.faults → ⊥) → Outcome inputs (Some (prove elf hints out per_segment)) old new result
+    → (result ≡ status.NoMemory) ⊎ ((result ≡ status.Done) × ProvedAsSaid loaded h lengths steps code shown old new)
+proved_by elf hints out inputs per_segment old new result lengths steps code shown loaded e h same_elf same_hints short_elf short image ends told_elf told_hints quiet outcome =
+    let gives : GivesImage (inputs Elf) loaded = record { short = subst (λ xs. length xs ≤ MAX_FILE) same_elf short_elf; image = subst (λ xs. HasImage xs loaded) same_elf image } in
+    subst (λ xs. (result ≡ status.NoMemory) ⊎ ((result ≡ status.Done) × ProvedAsSaid loaded xs lengths steps code shown old new)) (sym same_hints)
+    (ending_run_is_proved elf hints out inputs per_segment old new result lengths steps code shown loaded gives (subst (λ xs. length xs ≤ MAX_FILE) same_hints short)
+    (subst (λ xs. EndsCut loaded xs per_segment steps lengths code shown) same_hints ends) (told_elf ∙ ap Some same_elf) (told_hints ∙ ap Some same_hints) quiet outcome)
+
 pub headline : (words : List (List ℕ)) (command : Option Command) (old new : HostState) (result : Status) → Means words command → Answers command old new result → Headline words old new result
 headline words command old new result means answers = record {
   accepted = λ elf tables e t is done told_elf told_tables.
       let same : command ≡ Some (check elf tables) = meaning_is_one words command (Some (check elf tables)) means (is, tt) in
       let a : Answers (Some (check elf tables)) old new status.Done = subst (λ s. Answers (Some (check elf tables)) old new s) done (subst (λ c. Answers c old new result) same answers) in
       said_by e elf t tables a.inputs old new (told_is (old.content Elf elf) e (a.inputs Elf) told_elf a.contents.0) told_tables a.outcome;
+  proved = λ elf hints out e h lengths shown per_segment steps code loaded is least most told_elf told_hints short_elf short image ends quiet.
+      let same : command ≡ Some (prove elf hints out per_segment) = meaning_is_one words command (Some (prove elf hints out per_segment)) means (is, (least, most)) in
+      let a : Answers (Some (prove elf hints out per_segment)) old new result = subst (λ c. Answers c old new result) same answers in
+      let same_elf : e ≡ a.inputs Elf = told_is (old.content Elf elf) e (a.inputs Elf) told_elf a.contents.0 in
+      let same_hints : h ≡ a.inputs Second = told_is (old.content Second hints) h (a.inputs Second) told_hints a.contents.1.0 in
+      proved_by elf hints out a.inputs per_segment old new result lengths steps code shown loaded e h same_elf same_hints short_elf short image ends told_elf told_hints quiet a.outcome;
 }

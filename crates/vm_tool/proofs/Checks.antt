@@ -19,6 +19,7 @@ use Rattle.vm_checker.specs.Verdicts.{Checks, JudgesFile}
 use Rattle.vm_tool.specs.declared.answer.Answer.TheVariants.{Accepted}
 use Rattle.vm_tool.specs.declared.answer.Halt.{Halt}
 use Rattle.vm_tool.specs.declared.answer.Halt.TheVariants.{Found, Host}
+use Rattle.vm_tool.specs.Answer.{status_of}
 use Rattle.vm_tool.specs.Command.{check}
 use Rattle.vm_tool.specs.Files.{GivesImage, RefusesElf, IsContent, elf_refused, over_image}
 use Rattle.vm_tool.specs.CheckCommand.{answer_of_verdict}
@@ -27,13 +28,20 @@ use Rattle.vm_tool.specs.ReadFile.{Quiet, IsOpened, ReadWhole, HaltsAt}
 use Rattle.vm_tool.specs.Outcome.{Finds, ReadsAccepted}
 use Rattle.vm_tool.proofs.Files.{opened_then_took, rose_after}
 use Rattle.vm_tool.proofs.Quiet.{quiet_both, some_content, same_content}
-use Rattle.vm_tool.proofs.Stages.{ElfCommand, finds_second, fails_second}
+use Rattle.vm_tool.proofs.Stages.{Fails, ElfCommand, TwoInputs, finds_second, fails_second}
+
+failed_not_accepted : (halt : Halt) (accepted : Acceptance) → Fails halt → halt ≡ Found (Accepted accepted) → ⊥
+failed_not_accepted (Found found) accepted fails e = let is : found ≡ Accepted accepted = cc in fails (ap status_of is)
+failed_not_accepted (Host error) accepted fails e = cc (e)
+
+check_two : (elf tables : List ℕ) → TwoInputs (check elf tables) elf tables []
+check_two elf tables = record { names = refl; others = λ Fact. tt }
 
 pub check_known : (elf tables : List ℕ) → ElfCommand (check elf tables) elf ((place.Second, tables) ∷ [])
 check_known elf tables = record {
   names = refl;
   says = λ content inputs found why. elf_refused why;
-  leaves = λ inputs s u halt not writes. (writes, λ accepted is. absurd (not accepted is));
+  leaves = λ inputs s u halt fails writes. (writes, λ accepted is. absurd (failed_not_accepted halt accepted fails is));
   fill = λ content bytes told. let other = some_content (content Second tables) in (by_slot bytes other.0, (told, (other.1, tt)), refl);
 }
 
@@ -58,7 +66,7 @@ module _ (elf tables : List ℕ) (s t : HostState) (bytes : List ℕ) (loaded : 
   tables_halt u (Found found) h = absurd (h.2)
   tables_halt u (Host error) h =
       let both = quiet_both s t u ((place.Elf, elf) ∷ []) (take h.0.count ((place.Second, tables) ∷ [])) a.quiet h.0.quiet in
-      fails_second (check elf tables) elf tables s u bytes loaded h.0.count error (check_known elf tables) a.told image both
+      fails_second (check elf tables) elf tables [] s u bytes loaded h.0.count error (check_known elf tables) (check_two elf tables) a.told image both
       (λ failed. omega (arith, h.1 failed, a.quiet.later, h.0.quiet.later))
 
   module _ (u w : HostState) (o : IsOpened Second tables t u) where
@@ -84,12 +92,12 @@ module _ (elf tables : List ℕ) (s t : HostState) (bytes : List ℕ) (loaded : 
         let other = some_content (s.content Second tables) in
         let content : (u.input Second).rest ≡ s.content Second tables = ap (λ (i : Input). i.rest) o.input ∙ ap (λ told. told Second tables) (same_content s t ((place.Elf, elf) ∷ []) a.quiet) in
         let judges : IfSome (s.content Second tables) (λ bytes. JudgesFile program_tables loaded bytes v) = subst (λ (told : Option (List ℕ)). IfSome told (λ bytes. JudgesFile program_tables loaded bytes v)) content c.judged in
-        finds_second (check elf tables) elf tables s w bytes other.0 loaded 1 (Found (answer_of_verdict v)) refl a.told other.1 image
+        finds_second (check elf tables) elf tables [] s w bytes other.0 loaded 1 (Found (answer_of_verdict v)) (check_two elf tables) a.told other.1 image
         (λ writes. (writes, reads_accepted v c)) quiet
         (over_image loaded image (record { verdict = v; judges = judges; is = refl }), λ done. quiet.named)
 
     -- reading fails, or memory was refused
     pub check_fails : (error : HostError) → Checks (JudgesFile program_tables loaded) u w (Err error) → Finds (Some (check elf tables)) s w (Host error)
     check_fails error c =
-        fails_second (check elf tables) elf tables s w bytes loaded 1 error (check_known elf tables) a.told image (read_both c.took.0 c.took.1)
+        fails_second (check elf tables) elf tables [] s w bytes loaded 1 error (check_known elf tables) (check_two elf tables) a.told image (read_both c.took.0 c.took.1)
         (λ failed. rose_after s.faults u.faults w.faults (omega (arith, a.quiet.later, o.quiet.later)) (c.fault (ap Err failed)))

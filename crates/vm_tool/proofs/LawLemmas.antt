@@ -16,21 +16,26 @@ use Rattle.elf_image.specs.Loaded.{Loaded}
 use Rattle.elf_image.proofs.Images.{image_is_one, refusal_is_one, refused_has_no_image}
 use Rattle.rv_run.specs.declared.outcome.RunEnd.TheVariants.{Ended}
 use Rattle.rv_run.proofs.Runs.{run_end_is_one}
+use Rattle.vm_prover.specs.declared.proving.Proving.TheVariants as proving
+use Rattle.vm_prover.proofs.OneWay.{proving_is_one}
 use Rattle.vm_tool.specs.declared.answer.Answer.{Answer}
 use Rattle.vm_tool.specs.declared.answer.Answer.TheVariants as answer
 use Rattle.vm_tool.specs.declared.answer.Status.{Status}
 use Rattle.vm_tool.specs.declared.answer.Status.TheVariants as status
 use Rattle.vm_tool.specs.Answer.{status_of, text_of}
-use Rattle.vm_tool.specs.Command.{Command, run, transpile, check, names_of, words_of, IsInLimits}
+use Rattle.vm_tool.specs.Command.{Command, run, transpile, check, prove, sample, names_of, words_of, IsInLimits}
 use Rattle.vm_tool.specs.Files.{MAX_FILE, IsContent, AreContents, GivesImage, RefusesElf, too_long, refused, OverElf, elf_refused, over_image, RefusesHints}
 use Rattle.vm_tool.specs.RunCommand.{answer_of_end, RunAnswers, hints_refused, ended, RunEnds}
 use Rattle.vm_tool.specs.TranspileCommand.{Lists}
 use Rattle.vm_tool.specs.CheckCommand.{CheckAnswers, CheckSucceeds}
+use Rattle.vm_tool.specs.ProveCommand.{answer_of_proving, ProveAnswers, no_hints, run_is_proved}
+use Rattle.vm_tool.specs.SampleCommand.{sample_image, sample_per_segment, SampleAnswers}
 use Rattle.vm_tool.specs.Says.{Says, Succeeds}
 use Rattle.vm_tool.specs.Outcome.{all_names, OpensElfAlone, Outcome, answered, fault, memory, Answers}
 use Rattle.vm_tool.specs.Laws.{MeaningIsOne, AnswerIsOne, AreTold, IsAnswered, Determined, Complete, RefusedElfDecides, FaultHasCause}
 use Rattle.vm_tool.proofs.Verdicts.{check_answers_are_one, accepted_says}
 use Rattle.vm_tool.proofs.Quiet.{told_is}
+use Rattle.vm_tool.proofs.Stages.{output_first}
 
 -- ---- words
 
@@ -46,6 +51,8 @@ read_back words =
     if bytes_eq name (codes "run") then Some (run (word_at 1 words) (word_at 2 words) (digits_value 10 (word_at 3 words)))
     else if bytes_eq name (codes "transpile") then Some (transpile (word_at 1 words))
     else if bytes_eq name (codes "check") then Some (check (word_at 1 words) (word_at 2 words))
+    else if bytes_eq name (codes "prove") then Some (prove (word_at 1 words) (word_at 2 words) (word_at 3 words) (digits_value 10 (word_at 4 words)))
+    else if bytes_eq name (codes "sample") then Some (sample (digits_value 10 (word_at 1 words)) (word_at 2 words))
     else None
 
 reads_back : (command : Command) → IsInLimits command → read_back (words_of command) ≡ Some command
@@ -55,6 +62,12 @@ reads_back (run elf hints steps) h =
     ap (λ n. Some (run elf hints n)) (decimal_is_IsNumeral steps small).1
 reads_back (transpile elf) h = refl
 reads_back (check elf tables) h = refl
+reads_back (prove elf hints out per_segment) h =
+    let small : per_segment < 2 ^ 64 = omega (arith, h.1) in
+    ap (λ n. Some (prove elf hints out n)) (decimal_is_IsNumeral per_segment small).1
+reads_back (sample number out) h =
+    let small : number < 2 ^ 64 = omega (arith, h) in
+    ap (λ n. Some (sample n out)) (decimal_is_IsNumeral number small).1
 
 same_command : (a b : Command) → IsInLimits a → IsInLimits b → words_of a ≡ words_of b → a ≡ b
 same_command a b h k e =
@@ -102,6 +115,19 @@ run_answers_are_one hints limit loaded a b (ended x) (hints_refused y) = absurd 
 run_answers_are_one hints limit loaded a b (ended x) (ended y) =
     x.is ∙ ap (answer_of_end limit) (run_end_is_one loaded hints limit x.end y.end x.ended y.ended) ∙ sym y.is
 
+prove_answers_are_one : (hints : List ℕ) (per_segment : ℕ) (loaded : Loaded) (a b : Answer) → ProveAnswers hints per_segment loaded a → ProveAnswers hints per_segment loaded b → a ≡ b
+prove_answers_are_one hints per_segment loaded a b (no_hints x) (no_hints y) = x.is ∙ sym y.is
+prove_answers_are_one hints per_segment loaded a b (no_hints x) (run_is_proved y) = absurd (long_alone hints a x y.short)
+prove_answers_are_one hints per_segment loaded a b (run_is_proved x) (no_hints y) = absurd (long_alone hints b y x.short)
+prove_answers_are_one hints per_segment loaded a b (run_is_proved x) (run_is_proved y) =
+    x.is ∙ ap answer_of_proving (proving_is_one loaded hints per_segment x.proving y.proving x.comes y.comes) ∙ sym y.is
+
+sample_answers_are_one : (number : ℕ) (a b : Answer) → SampleAnswers number a → SampleAnswers number b → a ≡ b
+sample_answers_are_one number a b x y =
+    let same : proving.Proved x.claim ≡ proving.Proved y.claim = proving_is_one (sample_image number) [] sample_per_segment (proving.Proved x.claim) (proving.Proved y.claim) x.ends y.ends in
+    let claims : x.claim ≡ y.claim = cc in
+    x.is ∙ ap (answer.Sampled number) claims ∙ sym y.is
+
 one_by : (told : Option (List ℕ)) (tables : List ℕ) → told ≡ Some tables → (loaded : Loaded) (a b : Answer) → CheckAnswers told loaded a → CheckAnswers told loaded b → a ≡ b
 one_by told tables e loaded a b x y =
     check_answers_are_one tables loaded a b (subst (λ (o : Option (List ℕ)). CheckAnswers o loaded a) e x) (subst (λ (o : Option (List ℕ)). CheckAnswers o loaded b) e y)
@@ -113,6 +139,9 @@ answer_is_one content inputs (Some (run elf hints steps)) a b told x y =
 answer_is_one content inputs (Some (transpile elf)) a b told x y = over_elf_is_one (inputs Elf) Lists (λ loaded c d p q. p ∙ sym q) a b x y
 answer_is_one content inputs (Some (check elf tables)) a b told x y =
     over_elf_is_one (inputs Elf) (CheckAnswers (content Second tables)) (one_by (content Second tables) (inputs Second) told.1.0) a b x y
+answer_is_one content inputs (Some (prove elf hints out per_segment)) a b told x y =
+    over_elf_is_one (inputs Elf) (ProveAnswers (inputs Second) per_segment) (prove_answers_are_one (inputs Second) per_segment) a b x y
+answer_is_one content inputs (Some (sample number out)) a b told x y = sample_answers_are_one number a b x y
 
 -- ---- told files
 
@@ -127,6 +156,10 @@ says_told content (Some (transpile elf)) inputs told found c k says =
     subst (λ e. OverElf e Lists found) (sym (told_is (content Elf elf) (told Elf) (inputs Elf) k.0 c.0)) says
 says_told content (Some (check elf tables)) inputs told found c k says =
     subst (λ e. OverElf e (CheckAnswers (content Second tables)) found) (sym (told_is (content Elf elf) (told Elf) (inputs Elf) k.0 c.0)) says
+says_told content (Some (prove elf hints out per_segment)) inputs told found c k says =
+    subst (λ h. OverElf (told Elf) (ProveAnswers h per_segment) found) (sym (told_is (content Second hints) (told Second) (inputs Second) k.1.0 c.1.0))
+    (subst (λ e. OverElf e (ProveAnswers (inputs Second) per_segment) found) (sym (told_is (content Elf elf) (told Elf) (inputs Elf) k.0 c.0)) says)
+says_told content (Some (sample number out)) inputs told found c k says = says
 
 -- a call without a fault says the one answer that its words can have
 answered_by : (inputs : Slot → List ℕ) (command : Option Command) (old new : HostState) (result : Status) (found : Answer) → Outcome inputs command old new result
@@ -158,11 +191,17 @@ success_alone content inputs (run elf hints steps) found other told x says =
 success_alone content inputs (transpile elf) found other told x says = answer_is_one content inputs (Some (transpile elf)) other found told says (over_image x.loaded x.image x.lists)
 success_alone content inputs (check elf tables) found other told x says =
     check_alone (inputs Elf) (inputs Second) found other x (subst (λ (o : Option (List ℕ)). OverElf (inputs Elf) (CheckAnswers o) other) told.1.0 says)
+success_alone content inputs (prove elf hints out per_segment) found other told x says =
+    answer_is_one content inputs (Some (prove elf hints out per_segment)) other found told says
+    (over_image x.loaded x.image (run_is_proved (record { short = x.short; proving = proving.Proved x.claim; comes = x.ends; is = x.is })))
+success_alone content inputs (sample number out) found other told x says = sample_answers_are_one number other found says x
 
 success_done : (inputs : Slot → List ℕ) (command : Command) (found : Answer) → Succeeds inputs command found → status_of found ≡ status.Done
 success_done inputs (run elf hints steps) found x = ap status_of x.is
 success_done inputs (transpile elf) found x = ap status_of x.lists
 success_done inputs (check elf tables) found x = ap status_of x.is
+success_done inputs (prove elf hints out per_segment) found x = ap status_of x.is
+success_done inputs (sample number out) found x = ap status_of x.is
 
 pub is_complete : Complete
 is_complete command old new result told found a contents quiet x = (
@@ -184,6 +223,8 @@ refusal_alone content inputs None elf others found refusal names why says = absu
 refusal_alone content inputs (Some (run name hints steps)) elf others found refusal names why says = over_refused (inputs Elf) _ found refusal why says
 refusal_alone content inputs (Some (transpile name)) elf others found refusal names why says = over_refused (inputs Elf) _ found refusal why says
 refusal_alone content inputs (Some (check name tables)) elf others found refusal names why says = over_refused (inputs Elf) _ found refusal why says
+refusal_alone content inputs (Some (prove name hints out per_segment)) elf others found refusal names why says = over_refused (inputs Elf) _ found refusal why says
+refusal_alone content inputs (Some (sample number out)) elf others found refusal names why says = absurd (output_first out elf [] others names)
 
 -- the ELF file is the one that is told
 elf_is : (content : Slot → List ℕ → Option (List ℕ)) (inputs : Slot → List ℕ) (names others : List (Place × List ℕ)) (elf bytes : List ℕ)
@@ -213,6 +254,9 @@ no_fault_answer (answer.ElfRefused refusal) e = cc
 no_fault_answer answer.HintLimit e = cc
 no_fault_answer (answer.Exit code public_bytes steps) e = cc
 no_fault_answer (answer.Listing rows) e = cc
+no_fault_answer (answer.Proved claim) e = cc
+no_fault_answer (answer.Sampled number claim) e = cc
+no_fault_answer answer.SegmentLimit e = cc
 no_fault_answer (answer.Accepted accepted) e = cc
 no_fault_answer (answer.Rejected reason) e = cc
 no_fault_answer (answer.Trapped trap) e = cc

@@ -20,7 +20,7 @@ pub transpile_known : (elf : List ℕ) → ElfCommand (transpile elf) elf []
 transpile_known elf = record {
   names = refl;
   says = λ content inputs found why. elf_refused why;
-  leaves = λ inputs s u halt not writes. writes;
+  leaves = λ inputs s u halt fails writes. writes;
   fill = λ content bytes told. (by_slot bytes [], (told, tt), refl);
 }
 

@@ -49,9 +49,12 @@ status_of answer.Words = status.Words
 status_of answer.ElfTooLong = status.ElfRefused
 status_of (answer.ElfRefused refusal) = status.ElfRefused
 status_of answer.HintLimit = status.Limit
+status_of answer.SegmentLimit = status.Limit
 status_of (answer.Exit code public_bytes steps) = status.Done
 status_of (answer.Listing rows) = status.Done
 status_of (answer.Accepted accepted) = status.Done
+status_of (answer.Proved claim) = status.Done
+status_of (answer.Sampled number claim) = status.Done
 status_of (answer.Rejected reason) = status.Rejected
 status_of (answer.Trapped trap) = status.Trapped
 status_of (answer.StepLimit limit) = status.Limit
@@ -66,11 +69,25 @@ abbrev pub line_of_exit : ℕ → List ℕ → ℕ → List ℕ
 line_of_exit code digits steps =
     codes "exit " ++ decimal code ++ codes " public " ++ digits ++ codes " steps " ++ decimal steps ++ codes "\n"
 
--- 64 public bytes as 128 digits, with the exit code, the segments and how many hint bytes the run takes
+-- what a table file claims: 64 public bytes as 128 digits, with the exit code, the segments and a count by its name
+abbrev pub line_of_claim : List ℕ → ℕ → List ℕ → ℕ → List ℕ → ℕ → List ℕ
+line_of_claim name code digits segments counted count =
+    name ++ codes " exit " ++ decimal code ++ codes " public " ++ digits ++ codes " segments " ++ decimal segments
+    ++ codes " " ++ counted ++ codes " " ++ decimal count ++ codes "\n"
+
+-- an accepted file, and how many hint bytes its run takes
 abbrev pub line_of_accepted : ℕ → List ℕ → ℕ → ℕ → List ℕ
-line_of_accepted code digits segments hints =
-    codes "accepted exit " ++ decimal code ++ codes " public " ++ digits ++ codes " segments " ++ decimal segments
-    ++ codes " hint-bytes " ++ decimal hints ++ codes "\n"
+line_of_accepted code digits segments hints = line_of_claim (codes "accepted") code digits segments (codes "hint-bytes") hints
+
+-- a file that was written, and how many steps its run has
+abbrev pub line_of_proved : ℕ → List ℕ → ℕ → ℕ → List ℕ
+line_of_proved code digits segments steps = line_of_claim (codes "proved") code digits segments (codes "steps") steps
+
+-- the file of a sample that was written
+abbrev pub line_of_sample : ℕ → ℕ → ℕ → List ℕ → ℕ → List ℕ
+line_of_sample number steps code digits segments =
+    codes "sample " ++ decimal number ++ codes " steps " ++ decimal steps ++ codes " exit " ++ decimal code
+    ++ codes " public " ++ digits ++ codes " segments " ++ decimal segments ++ codes "\n"
 
 -- the line or lines that are said
 abbrev pub text_of : Answer → List ℕ
@@ -81,9 +98,12 @@ text_of answer.HintLimit = codes "limit hints 67108864\n"
 text_of (answer.Exit code public_bytes steps) = line_of_exit code (encode_lower public_bytes) steps
 text_of (answer.Listing rows) = listing_of rows
 text_of (answer.Accepted accepted) = line_of_accepted accepted.code (encode_lower accepted.public) accepted.segments (length accepted.hints)
+text_of (answer.Proved claim) = line_of_proved claim.code (encode_lower claim.public) claim.segments claim.steps
+text_of (answer.Sampled number claim) = line_of_sample number claim.steps claim.code (encode_lower claim.public) claim.segments
 text_of (answer.Rejected reason) = codes "rejected " ++ reason_text reason ++ codes "\n"
 text_of (answer.Trapped trap) =
     codes "trap " ++ cause_text trap.cause ++ codes " at " ++ encode_lower (to_be_bytes w32 trap.pc) ++ codes "\n"
+text_of answer.SegmentLimit = codes "limit segments 4096\n"
 text_of (answer.StepLimit limit) = codes "limit steps " ++ decimal limit ++ codes "\n"
 
 -- the number that the process ends with

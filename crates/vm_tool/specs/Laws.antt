@@ -1,7 +1,7 @@
 -- What follows from the contract of the top call.
 use Rattle.std.specs.Prelude.{◌≡◌, ◌⊎◌, ℕ, List, [], ◌∷◌, Some, Option}
 use Rattle.vm_host.specs.declared.Slot.{Slot}
-use Rattle.vm_host.specs.declared.Slot.TheVariants.{Elf}
+use Rattle.vm_host.specs.declared.Slot.TheVariants.{Elf, Second}
 use Rattle.vm_host.specs.declared.Place.{Place}
 use Rattle.vm_host.specs.declared.Place.TheVariants as place
 use Rattle.vm_host.specs.State.{HostState, then_more}
@@ -9,8 +9,9 @@ use Rattle.vm_host.specs.Calls.{Rose}
 use Rattle.vm_tool.specs.declared.answer.Answer.{Answer}
 use Rattle.vm_tool.specs.declared.answer.Status.{Status}
 use Rattle.vm_tool.specs.declared.answer.Status.TheVariants as status
-use Rattle.vm_tool.specs.Answer.{status_of, text_of}
-use Rattle.vm_tool.specs.Command.{Command, Means, names_of}
+use Rattle.hex.specs.Hex.{encode_lower}
+use Rattle.vm_tool.specs.Answer.{status_of, text_of, line_of_accepted, line_of_proved}
+use Rattle.vm_tool.specs.Command.{Command, Means, names_of, check, prove}
 use Rattle.vm_tool.specs.Files.{EachInput, RefusesElf}
 use Rattle.vm_tool.specs.Says.{Says, Succeeds}
 use Rattle.vm_tool.specs.Outcome.{all_names, OpensElfAlone, Answers}
@@ -58,6 +59,24 @@ RefusedElfDecides = (command : Option Command) (old new : HostState) (result : S
     → all_names command ≡ (place.Elf, elf) ∷ others → old.content Elf elf ≡ Some bytes
     → RefusesElf bytes refusal
     → OpensElfAlone elf old new × ((Rose old.faults new.faults → ⊥) → IsAnswered old new result refusal)
+
+-- A file that was written with status 0 is accepted by a check over the same ELF file, on a host that tells it: where no fault
+-- is counted the status is 0, or 7 for want of memory. Both lines have the same exit code, public bytes and segments.
+pub record SaysTheSame (old new again later : HostState) (result : Status) : Type 0 where
+  pub code : ℕ
+  pub public_bytes : List ℕ
+  pub segments : ℕ
+  pub steps : ℕ
+  pub hint_bytes : ℕ
+  pub proved : new.said ≡ then_more old.said (line_of_proved code (encode_lower public_bytes) segments steps)
+  pub accepted : (result ≡ status.NoMemory) ⊎ ((result ≡ status.Done) × (later.said ≡ then_more again.said (line_of_accepted code (encode_lower public_bytes) segments hint_bytes)))
+
+abbrev pub WrittenFilesAreAccepted : Type 0
+WrittenFilesAreAccepted = (elf hints out image tables bytes : List ℕ) (per_segment : ℕ) (old new again later : HostState) (result : Status)
+    → (a : Answers (Some (prove elf hints out per_segment)) old new status.Done) → new.output.written ≡ Some bytes
+    → Answers (Some (check image tables)) again later result → again.content Elf image ≡ Some (a.inputs Elf) → again.content Second tables ≡ Some bytes
+    → (Rose again.faults later.faults → ⊥)
+    → SaysTheSame old new again later result
 
 -- a host's fault is answered only where the host counted one
 abbrev pub FaultHasCause : Type 0

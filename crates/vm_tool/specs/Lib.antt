@@ -7,6 +7,8 @@ pub mod Files
 pub mod RunCommand
 pub mod TranspileCommand
 pub mod CheckCommand
+pub mod ProveCommand
+pub mod SampleCommand
 pub mod Says
 pub mod Outcome
 pub mod ReadFile

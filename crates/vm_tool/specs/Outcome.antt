@@ -18,8 +18,10 @@ use Rattle.vm_tool.specs.declared.answer.Status.TheVariants.{Done, HostFault, No
 use Rattle.vm_tool.specs.declared.answer.Halt.{Halt}
 use Rattle.vm_tool.specs.declared.answer.Halt.TheVariants.{Found, Host}
 use Rattle.vm_tool.specs.Answer.{status_of, text_of, status_of_error}
-use Rattle.vm_tool.specs.Command.{Command, names_of, run, transpile, check}
+use Rattle.vm_tool.specs.Command.{Command, names_of, run, transpile, check, prove, sample}
 use Rattle.vm_tool.specs.Files.{AreContents, GivesImage}
+use Rattle.vm_tool.specs.ProveCommand.{LeavesTables}
+use Rattle.vm_tool.specs.SampleCommand.{sample_image, sample_per_segment}
 use Rattle.vm_tool.specs.Says.{Says}
 
 -- the names of a command, and none for other words
@@ -30,6 +32,10 @@ all_names (Some command) = names_of command
 -- nothing was written: only faults, inputs, what was said and the names may differ
 abbrev pub WritesNothing : HostState → HostState → Type 0
 WritesNothing old new = new ≡ record old { faults = new.faults; input = new.input; said = new.said; named = new.named }
+
+-- only the output, and with it what files have, may differ besides
+abbrev pub WritesOutput : HostState → HostState → Type 0
+WritesOutput old new = new ≡ record old { faults = new.faults; input = new.input; output = new.output; said = new.said; named = new.named; content = new.content }
 
 -- a table file that was accepted was read to its end
 abbrev pub ReadsAccepted : List ℕ → HostState → HostState → Halt → Type 0
@@ -43,6 +49,8 @@ Leaves inputs None old new halt = WritesNothing old new
 Leaves inputs (Some (run elf hints steps)) old new halt = WritesNothing old new
 Leaves inputs (Some (transpile elf)) old new halt = WritesNothing old new
 Leaves inputs (Some (check elf tables)) old new halt = WritesNothing old new × ReadsAccepted tables old new halt
+Leaves inputs (Some (prove elf hints out per_segment)) old new halt = WritesOutput old new × LeavesTables (GivesImage (inputs Elf)) (inputs Second) per_segment old new halt
+Leaves inputs (Some (sample number out)) old new halt = WritesOutput old new × LeavesTables (λ loaded. loaded ≡ sample_image number) [] sample_per_segment old new halt
 
 -- no name but the ELF file's was handed over, the second input stayed, and nothing was written
 pub record OpensElfAlone (elf : List ℕ) (old new : HostState) : Type 0 where

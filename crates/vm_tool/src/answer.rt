@@ -1,7 +1,7 @@
 // What the program answers: a status and a line.
 ghost use Rattle.std.specs.Prelude.{◌≡◌, IfOk, string_bytes};
 ghost use Rattle.vm_tool.specs.Listing.{line_of_row, listing_of};
-ghost use Rattle.vm_tool.specs.Answer.{status_of, status_of_error, text_of, refusal_text, cause_text, line_of_exit, line_of_accepted, code_of};
+ghost use Rattle.vm_tool.specs.Answer.{status_of, status_of_error, text_of, refusal_text, cause_text, line_of_exit, line_of_claim, line_of_sample, code_of};
 
 use elf_image::ImageError;
 use rv_run::{Cause, Trap};
@@ -9,6 +9,7 @@ use std::alloc::{AllocError, Global};
 use vm_checker::{Accepted, Reason};
 use vm_host::HostError;
 use vm_isa::VmInstr;
+use vm_prover::Proved;
 use vm_transpile::Program;
 
 /// How the program ends.
@@ -55,6 +56,15 @@ pub enum Answer {
     },
     /// The rows of the program.
     Listing(Program),
+    /// The table file was written.
+    Proved(Proved),
+    /// The table file of the sample of this number was written.
+    Sampled {
+        number: u32,
+        claim: Proved,
+    },
+    /// The run has too many segments.
+    SegmentLimit,
     /// The table file is accepted.
     Accepted(Accepted),
     /// The table file is rejected.
@@ -92,8 +102,12 @@ impl Answer {
         match self {
             Answer::Words => Status::Words,
             Answer::ElfTooLong | Answer::ElfRefused(_) => Status::ElfRefused,
-            Answer::HintLimit | Answer::StepLimit { .. } => Status::Limit,
-            Answer::Exit { .. } | Answer::Listing(_) | Answer::Accepted(_) => Status::Done,
+            Answer::HintLimit | Answer::StepLimit { .. } | Answer::SegmentLimit => Status::Limit,
+            Answer::Exit { .. }
+            | Answer::Listing(_)
+            | Answer::Accepted(_)
+            | Answer::Proved(_)
+            | Answer::Sampled { .. } => Status::Done,
             Answer::Rejected(_) => Status::Rejected,
             Answer::Trapped(_) => Status::Trapped,
         }
@@ -123,8 +137,33 @@ impl Answer {
             Answer::Accepted(accepted) => {
                 let digits = hex::encode(alloc, accepted.public.as_slice())?;
                 let hints = accepted.hints.as_slice().len();
-                accepted_line(alloc, accepted.code, &digits, accepted.segments, hints)
+                claim_line(
+                    alloc,
+                    "accepted",
+                    accepted.code,
+                    &digits,
+                    accepted.segments,
+                    "hint-bytes",
+                    hints as u64,
+                )
             }
+            Answer::Proved(claim) => {
+                let digits = hex::encode(alloc, claim.public.as_slice())?;
+                claim_line(
+                    alloc,
+                    "proved",
+                    claim.code,
+                    &digits,
+                    claim.segments,
+                    "steps",
+                    claim.steps,
+                )
+            }
+            Answer::Sampled { number, claim } => {
+                let digits = hex::encode(alloc, claim.public.as_slice())?;
+                sample_line(alloc, *number, claim, &digits)
+            }
+            Answer::SegmentLimit => String::from_str(alloc, "limit segments 4096\n"),
             Answer::Rejected(reason) => {
                 let reason = reason.text(alloc)?;
                 format!(in alloc; "rejected {reason}\n")
@@ -185,17 +224,37 @@ fn exit_line(alloc: Global, code: u8, digits: &str, steps: u64) -> Result<String
     Ok(line)
 }
 
-fn accepted_line(
+// What a table file claims, and a count by its name.
+fn claim_line(
     alloc: Global,
+    name: &str,
     code: u8,
     digits: &str,
     segments: u32,
-    hints: usize,
+    counted: &str,
+    count: u64,
 ) -> Result<String, AllocError>
-    ensures { IfOk result (λ text. string_bytes text ≡ line_of_accepted code digits.now segments hints) }
+    ensures { IfOk result (λ text. string_bytes text ≡ line_of_claim name.now code digits.now segments counted.now count) }
 {
-    let mut line = format!(in alloc; "accepted exit {code} public {digits}")?;
-    let end = format!(in alloc; " segments {segments} hint-bytes {hints}\n")?;
+    let mut line = format!(in alloc; "{name} exit {code} public {digits}")?;
+    let end = format!(in alloc; " segments {segments} {counted} {count}\n")?;
+    line.push_str(&end)?;
+    Ok(line)
+}
+
+fn sample_line(
+    alloc: Global,
+    number: u32,
+    claim: &Proved,
+    digits: &str,
+) -> Result<String, AllocError>
+    ensures { IfOk result (λ text. string_bytes text ≡ line_of_sample number claim.now.steps claim.now.code digits.now claim.now.segments) }
+{
+    let mut line = format!(in alloc; "sample {number} steps {}", claim.steps)?;
+    let end = format!(in alloc;
+        " exit {} public {digits} segments {}\n",
+        claim.code, claim.segments
+    )?;
     line.push_str(&end)?;
     Ok(line)
 }

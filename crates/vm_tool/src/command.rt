@@ -8,6 +8,10 @@ use crate::number::parse_number;
 
 const MAX_STEPS: u64 = 1_000_000_000;
 
+const MAX_PER_SEGMENT: u64 = 16_384;
+
+const MAX_NUMBER: u64 = 4_294_967_295;
+
 /// A command, as its words spell it.
 #[derive(Clone, Copy)]
 pub enum Form<'a> {
@@ -23,6 +27,16 @@ pub enum Form<'a> {
         elf: &'a str,
         tables: &'a str,
     },
+    Prove {
+        elf: &'a str,
+        hints: &'a str,
+        out: &'a str,
+        per_segment: u32,
+    },
+    Sample {
+        number: u32,
+        out: &'a str,
+    },
 }
 
 /// Reads the words. `None` is for words that are no command.
@@ -37,6 +51,13 @@ pub fn parse_words(words: &[String]) -> Option<Form<'_>>
             first.as_str(),
             second.as_str(),
             third.as_str(),
+        ),
+        [name, first, second, third, fourth] => parse_five(
+            name.as_str(),
+            first.as_str(),
+            second.as_str(),
+            third.as_str(),
+            fourth.as_str(),
         ),
         _ => None,
     }
@@ -60,6 +81,8 @@ fn parse_three<'a>(name: &str, first: &'a str, second: &'a str) -> Option<Form<'
             elf: first,
             tables: second,
         })
+    } else if name == "sample" {
+        parse_sample(first, second)
     } else {
         None
     }
@@ -80,4 +103,39 @@ fn parse_run<'a>(elf: &'a str, hints: &'a str, steps: &str) -> Option<Form<'a>>
 {
     let steps = parse_number(steps, 0, MAX_STEPS)?;
     Some(Form::Run { elf, hints, steps })
+}
+
+fn parse_five<'a>(
+    name: &str,
+    first: &'a str,
+    second: &'a str,
+    third: &'a str,
+    fourth: &str,
+) -> Option<Form<'a>>
+    ensures { Means (name.now ∷ first.now ∷ second.now ∷ third.now ∷ fourth.now ∷ []) (option_map command_of result) }
+{
+    if name == "prove" {
+        parse_prove(first, second, third, fourth)
+    } else {
+        None
+    }
+}
+
+fn parse_prove<'a>(elf: &'a str, hints: &'a str, out: &'a str, number: &str) -> Option<Form<'a>>
+    ensures { Means (codes "prove" ∷ elf.now ∷ hints.now ∷ out.now ∷ number.now ∷ []) (option_map command_of result) }
+{
+    let per_segment = parse_number(number, 1, MAX_PER_SEGMENT)? as u32;
+    Some(Form::Prove {
+        elf,
+        hints,
+        out,
+        per_segment,
+    })
+}
+
+fn parse_sample<'a>(number: &str, out: &'a str) -> Option<Form<'a>>
+    ensures { Means (codes "sample" ∷ number.now ∷ out.now ∷ []) (option_map command_of result) }
+{
+    let number = parse_number(number, 0, MAX_NUMBER)? as u32;
+    Some(Form::Sample { number, out })
 }

@@ -1,5 +1,9 @@
 // What follows from the contract of the top call.
-ghost use Rattle.vm_tool.specs.Laws.{AnswerIsOne, Complete, Determined, FaultHasCause, MeaningIsOne, RefusedElfDecides};
+ghost use Rattle.vm_tool.specs.Laws.{AnswerIsOne, Complete, Determined, FaultHasCause, MeaningIsOne, RefusedElfDecides, WrittenFilesAreAccepted};
+
+use crate::tables::program_tables;
+use acceptance::laws::accepted_files_spell_hints;
+use vm_config::Full;
 
 /// Words are one command, or none.
 pub fn meaning_is_one()
@@ -32,3 +36,11 @@ pub fn refused_elf_decides()
 pub fn fault_has_cause()
     ensures { FaultHasCause }
 {}
+
+/// What `prove` wrote with status 0 is accepted by `check`, with the same exit code, public bytes and segments.
+pub fn written_files_are_accepted()
+    ensures { WrittenFilesAreAccepted }
+{
+    let _tables = program_tables();
+    accepted_files_spell_hints::<Full>();
+}

@@ -7,7 +7,9 @@ mod command;
 mod inputs;
 mod laws;
 mod number;
+mod prove_command;
 mod run_command;
+mod sample_command;
 mod tables;
 #[cfg(test)]
 mod tests;
@@ -16,7 +18,8 @@ mod transpile_command;
 
 pub use answer::{Answer, Status};
 pub use laws::{
-    answer_is_one, fault_has_cause, is_complete, is_determined, meaning_is_one, refused_elf_decides,
+    answer_is_one, fault_has_cause, is_complete, is_determined, meaning_is_one,
+    refused_elf_decides, written_files_are_accepted,
 };
 use std::alloc::AllocError;
 use std::process::ExitCode;

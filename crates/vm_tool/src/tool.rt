@@ -1,7 +1,7 @@
 // The top call.
-ghost use Rattle.std.specs.Prelude.{◌≡◌, map, string_bytes, Option};
+ghost use Rattle.std.specs.Prelude.{◌≡◌, map, string_bytes, Option, IfSome};
 ghost use Rattle.std.specs.Option.{option_map};
-ghost use Rattle.vm_tool.specs.Command.{Command, Means};
+ghost use Rattle.vm_tool.specs.Command.{Command, IsInLimits, Means};
 ghost use Rattle.vm_tool.specs.Form.{command_of};
 ghost use Rattle.vm_tool.specs.Headline.{Headline};
 ghost use Rattle.vm_tool.specs.Outcome.{Answers, Finds, Speaks, halt_of};
@@ -9,7 +9,9 @@ ghost use Rattle.vm_tool.specs.Outcome.{Answers, Finds, Speaks, halt_of};
 use crate::answer::{Answer, Halt, Status};
 use crate::check_command::find_check;
 use crate::command::{Form, parse_words};
+use crate::prove_command::find_prove;
 use crate::run_command::find_run;
+use crate::sample_command::find_sample;
 use crate::transpile_command::find_transpile;
 use std::alloc::Global;
 use vm_host::Host;
@@ -27,6 +29,7 @@ pub fn openvm<H: Host>(alloc: Global, words: &[String], host: &mut H) -> Status
 
 // Finds the answer to a form, and says it.
 fn perform<H: Host>(alloc: Global, form: Option<Form>, host: &mut H) -> Status
+    requires { IfSome (option_map command_of form) IsInLimits }
     ensures { Answers (option_map command_of form.entry) (H.state host.old) (H.state host.new) result }
 {
     match find(alloc, form, host) {
@@ -37,6 +40,7 @@ fn perform<H: Host>(alloc: Global, form: Option<Form>, host: &mut H) -> Status
 
 // Finds the answer, before anything is said.
 fn find<H: Host>(alloc: Global, form: Option<Form>, host: &mut H) -> Halt
+    requires { IfSome (option_map command_of form) IsInLimits }
     ensures { Finds (option_map command_of form.entry) (H.state host.old) (H.state host.new) result }
 {
     match form {
@@ -44,6 +48,15 @@ fn find<H: Host>(alloc: Global, form: Option<Form>, host: &mut H) -> Halt
         Some(Form::Run { elf, hints, steps }) => halt(find_run(alloc, elf, hints, steps, host)),
         Some(Form::Transpile { elf }) => halt(find_transpile(alloc, elf, host)),
         Some(Form::Check { elf, tables }) => halt(find_check(alloc, elf, tables, host)),
+        Some(
+            Form::Prove {
+                elf,
+                hints,
+                out,
+                per_segment,
+            },
+        ) => halt(find_prove(alloc, elf, hints, out, per_segment, host)),
+        Some(Form::Sample { number, out }) => halt(find_sample(alloc, number, out, host)),
     }
 }
 
