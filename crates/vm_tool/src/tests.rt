@@ -1,4 +1,5 @@
 mod instructions;
+mod proving;
 mod table_files;
 
 use crate::answer::Status;

@@ -1,0 +1,122 @@
+// Runs that `prove` writes the tables of, and what `check` says of them.
+use super::{PUBLIC_SEVEN, elf_of, host, named, says, words_of};
+use crate::answer::Status;
+use crate::tool::openvm;
+use std::alloc::{AllocError, Global};
+use std::process::Abort;
+use std::test::Fail;
+use vm_host::MemoryHost;
+use vm_vectors::{LINKED_ELF, SHA_ELF};
+
+// LUI x5, 2; hint store at 0(x5) and at 4(x5); terminate 0
+const TWO_HINTS: [u32; 4] = [0x0000_22B7, 0x0000_128B, 0x0040_128B, 0x0000_000B];
+
+// The digest of "abc", as words of which the lowest byte stands first.
+const SHA_OF_ABC: &str = "bf1678baeacf018fde4041412322ae5da36103b09c7a179661ff10b4ad1500f2";
+
+/// What a file states: exit code, public digits before zeros, segments, steps, hint bytes.
+type Stated = (u8, &'static str, u32, u64, u32);
+
+fn digits_of(alloc: Global, digits: &str) -> Result<String, AllocError> {
+    format!(in alloc; "{digits:0<128}")
+}
+
+fn proved_line(alloc: Global, stated: Stated) -> Result<String, AllocError> {
+    let (code, digits, segments, steps, _) = stated;
+    let public = digits_of(alloc, digits)?;
+    let mut line = format!(in alloc; "proved exit {code} public {public}")?;
+    line.push_str(&format!(in alloc; " segments {segments} steps {steps}\n")?)?;
+    Ok(line)
+}
+
+fn accepted_line(alloc: Global, stated: Stated) -> Result<String, AllocError> {
+    let (code, digits, segments, _, hints) = stated;
+    let public = digits_of(alloc, digits)?;
+    let mut line = format!(in alloc; "accepted exit {code} public {public}")?;
+    line.push_str(&format!(in alloc; " segments {segments} hint-bytes {hints}\n")?)?;
+    Ok(line)
+}
+
+// Proves the run, and checks the file on another host. Gives the file's length.
+fn proves<R: Abort + AllocGlobal>(
+    rt: &R,
+    elf: &[u8],
+    words: &str,
+    stated: Stated,
+) -> Result<usize, Fail> {
+    let alloc = rt.alloc();
+    let mut first = host(alloc, elf.to_vec(alloc)?, &[])?;
+    let answered = openvm(alloc, &words_of(alloc, words)?, &mut first);
+    assert_eq!(rt; answered, Status::Done, "{words}");
+    assert_eq!(rt;
+        first.said(),
+        proved_line(alloc, stated)?.as_bytes(),
+        "{words}"
+    );
+    let tables = first.into_written();
+    let length = tables.len();
+    let mut files = Vec::new(alloc);
+    files.push(named(alloc, "elf", elf.to_vec(alloc)?)?)?;
+    files.push(named(alloc, "tables", tables)?)?;
+    let mut second = MemoryHost::new(alloc, files, Vec::new(alloc));
+    let answered = openvm(alloc, &words_of(alloc, "check elf tables")?, &mut second);
+    assert_eq!(rt;
+        second.said(),
+        accepted_line(alloc, stated)?.as_bytes(),
+        "{words}"
+    );
+    assert_eq!(rt; answered, Status::Done, "{words}");
+    Ok(length)
+}
+
+#[test]
+fn runs_are_proved(rt: HostRuntime) -> Result<(), Fail> {
+    let alloc = rt.alloc();
+    let none = elf_of(alloc, &[0x0070_000B])?;
+    let length = proves(&rt, &none, "prove elf hints out 16384", (7, "", 1, 0, 0))?;
+    assert_eq!(rt; length, 1029);
+    let seven = elf_of(alloc, &PUBLIC_SEVEN)?;
+    proves(&rt, &seven, "prove elf hints out 16384", (0, "07", 1, 2, 0))?;
+    proves(&rt, &seven, "prove elf hints out 1", (0, "07", 2, 2, 0))?;
+    let hints = elf_of(alloc, &TWO_HINTS)?;
+    proves(&rt, &hints, "prove elf twelve out 16384", (0, "", 1, 3, 8))?;
+    proves(
+        &rt,
+        &SHA_ELF,
+        "prove elf hints out 5",
+        (0, SHA_OF_ABC, 4, 19, 0),
+    )?;
+    proves(
+        &rt,
+        &LINKED_ELF,
+        "prove elf hints out 3",
+        (0, "2a", 3, 8, 0),
+    )?;
+    Ok(())
+}
+
+#[test]
+fn runs_that_are_not_proved(rt: HostRuntime) -> Result<(), Fail> {
+    let alloc = rt.alloc();
+    let hints = elf_of(alloc, &TWO_HINTS)?;
+    let trap = "trap hints-end at 00001008\n";
+    says(&rt, hints, "prove elf four out 2", Status::Trapped, trap)?;
+    // a jump to itself
+    let jump = elf_of(alloc, &[0x0000_006F])?;
+    let limit = "limit segments 4096\n";
+    says(&rt, jump, "prove elf hints out 1", Status::Limit, limit)?;
+    for words in [
+        "prove elf hints out 0",
+        "prove elf hints out 16385",
+        "sample 4294967296 out",
+    ] {
+        says(
+            &rt,
+            elf_of(alloc, &PUBLIC_SEVEN)?,
+            words,
+            Status::Words,
+            "words\n",
+        )?;
+    }
+    Ok(())
+}
