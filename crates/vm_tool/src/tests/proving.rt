@@ -120,3 +120,70 @@ fn runs_that_are_not_proved(rt: HostRuntime) -> Result<(), Fail> {
     }
     Ok(())
 }
+
+// A step of each table: LUI, AUIPC, ADDI, SLT, SLLI, SW, LW, BEQ, BLT, JAL, FENCE, MUL, DIVU, JALR, a hint store, a reveal,
+// a SHA block, and terminate 0
+const EACH_TABLE: [u32; 18] = [
+    0x0000_22B7,
+    0x0000_0317,
+    0x0050_0393,
+    0x0053_A433,
+    0x0033_9493,
+    0x0072_A023,
+    0x0002_A503,
+    0x00A3_8263,
+    0x0053_C263,
+    0x0040_00EF,
+    0x0FF0_000F,
+    0x0273_85B3,
+    0x0272_D633,
+    0x0343_00E7,
+    0x0080_128B,
+    0x0002_A00B,
+    0x0203_428B,
+    0x0000_000B,
+];
+
+// The columns of each table.
+const WIDTHS: [usize; 17] = [
+    40, 41, 55, 46, 38, 26, 31, 22, 23, 31, 3, 40, 65, 28, 32, 267, 299,
+];
+
+// Where the codes of heights stand in a file of one segment, one byte for each table, and the rows behind them.
+const CODES: usize = 90;
+
+fn check_status<R: Abort + AllocGlobal>(rt: &R, elf: &[u8], tables: &[u8]) -> Result<Status, Fail> {
+    let alloc = rt.alloc();
+    let mut files = Vec::new(alloc);
+    files.push(named(alloc, "elf", elf.to_vec(alloc)?)?)?;
+    files.push(named(alloc, "tables", tables.to_vec(alloc)?)?)?;
+    let mut host = MemoryHost::new(alloc, files, Vec::new(alloc));
+    Ok(openvm(alloc, &words_of(alloc, "check elf tables")?, &mut host))
+}
+
+#[test]
+fn a_row_of_each_table(rt: HostRuntime) -> Result<(), Fail> {
+    let alloc = rt.alloc();
+    let elf = elf_of(alloc, &EACH_TABLE)?;
+    let mut host = host(alloc, elf.to_vec(alloc)?, &[])?;
+    let words = words_of(alloc, "prove elf four out 16384")?;
+    assert_eq!(rt; openvm(alloc, &words, &mut host), Status::Done);
+    let mut tables = host.into_written();
+    assert_eq!(rt; check_status(&rt, &elf, &tables)?, Status::Done);
+    let mut place = CODES + WIDTHS.len();
+    for (table, width) in WIDTHS.into_iter().enumerate() {
+        let code = tables[CODES + table];
+        assert!(rt; code > 0, "table {table}");
+        // the lowest byte of the last number of its first row
+        let cell = place + 4 * (width - 1);
+        tables[cell] ^= 1;
+        assert_eq!(rt;
+            check_status(&rt, &elf, &tables)?,
+            Status::Rejected,
+            "table {table}"
+        );
+        tables[cell] ^= 1;
+        place += 4 * width << (code - 1);
+    }
+    Ok(())
+}
