@@ -172,16 +172,18 @@ fn a_row_of_each_table(rt: HostRuntime) -> Result<(), Fail> {
     assert_eq!(rt; check_status(&rt, &elf, &tables)?, Status::Done);
     let mut place = CODES + WIDTHS.len();
     for (table, width) in WIDTHS.into_iter().enumerate() {
+        assert!(rt; table < 17 && 0 < width && width < 300);
+        assert!(rt; CODES + table < tables.len());
         let code = tables[CODES + table];
-        assert!(rt; code > 0, "table {table}");
+        assert!(rt; 0 < code && code < 22, "table {table}");
         // the lowest byte of the last number of its first row
+        assert!(rt; place < tables.len());
         let cell = place + 4 * (width - 1);
+        assert!(rt; cell < tables.len());
         tables[cell] ^= 1;
-        assert_eq!(rt;
-            check_status(&rt, &elf, &tables)?,
-            Status::Rejected,
-            "table {table}"
-        );
+        let status = check_status(&rt, &elf, &tables)?;
+        assert_eq!(rt; status, Status::Rejected, "table {table}");
+        assert!(rt; cell < tables.len());
         tables[cell] ^= 1;
         place += 4 * width << (code - 1);
     }
