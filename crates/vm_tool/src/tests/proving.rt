@@ -185,7 +185,7 @@ fn a_row_of_each_table(rt: HostRuntime) -> Result<(), Fail> {
         assert_eq!(rt; status, Status::Rejected, "table {table}");
         assert!(rt; cell < tables.len());
         tables[cell] ^= 1;
-        place += 4 * width << (code - 1);
+        place = place.saturating_add(4 * width << (code - 1));
     }
     Ok(())
 }
