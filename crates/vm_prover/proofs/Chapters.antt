@@ -19,7 +19,7 @@ use Rattle.acceptance.specs.Accepts.{shape_of}
 use Rattle.table_format.specs.declared.table_writer.TableWriter.{TableWriter}
 use Rattle.table_format.specs.Texts.{head_text, piece_text}
 use Rattle.vm_prover.specs.declared.segment.Parts.{Parts}
-use Rattle.vm_prover.specs.Segments.{GoesOnWriting, IsLater, IsMade, IsReady, IsSegmentOfParts, IsToWrite, IsWritten, Run, Stands, WritesPiece}
+use Rattle.vm_prover.specs.Segments.{GoesOnWriting, IsLater, IsMade, IsReadyFor, IsSegmentOfParts, IsToWrite, IsWritten, Run, SegmentsStand, WritesPiece}
 
 -- ---- a host that goes on
 
@@ -43,10 +43,10 @@ not_last k n h = grind (arith, nat_tests)
 module _ (x : System) (run : Run x) (program : List VmInstr) (lengths : List ℕ) (start : Machine) (before : Leaves) (begun : TableWriter) (first : HostState) (to : IsToWrite run program lengths start before begun first)
     (k d : ℕ) (within : k < length lengths) (m : Machine) (leaves : Leaves) (w : TableWriter) (s : HostState) (so : IsWritten run (nat_eq k (length lengths)) (take k lengths) m leaves w s)
   where
-    pub ready : IsReady run program m leaves so.segments (take k lengths) (get_or lengths k d)
+    pub ready : IsReadyFor run program m leaves so.segments (take k lengths) (get_or lengths k d)
     ready = record {
       over = to.over;
-      stand = subst (λ b. Stands run b so.segments (take k lengths) m leaves) (not_last k (length lengths) within) so.stand;
+      stand = subst (λ b. SegmentsStand run b so.segments (take k lengths) m leaves) (not_last k (length lengths) within) so.stand;
       within = omega (arith, firsts_and_next lengths k d within, to.plan.all);
       few = to.plan.short k d within;
     }
@@ -76,7 +76,7 @@ pub written_more : (x : System) (run : Run x) (ended ends : Bool) (lengths : Lis
     → IsWritten run ends (take (k + 1) lengths) m leaves w t
 written_more x run ended ends lengths k d from m old leaves v w s t parts within so made piece = record {
   segments = so.segments ++ made.segment ∷ [];
-  stand = subst (λ ls. Stands run ends (so.segments ++ made.segment ∷ []) ls m leaves) (sym (take_more lengths k d within)) made.stand;
+  stand = subst (λ ls. SegmentsStand run ends (so.segments ++ made.segment ∷ []) ls m leaves) (sym (take_more lengths k d within)) made.stand;
   told = told_more s.output.written t.output.written (head_text run.version) so.segments made.segment so.told piece.written;
   creating = piece.creating;
   writing = piece.writing;

@@ -16,7 +16,7 @@ use Rattle.rv_run.specs.Machine.{Machine, start}
 use Rattle.rv_run.specs.Step.{ends, goes, step_of, traps}
 use Rattle.rv_run.specs.Run.{Goes}
 use Rattle.vm_prover.specs.declared.cutting.Cutting.{Cutting}
-use Rattle.vm_prover.specs.Cut.{CutsTo, Stepped, cut, has_sha_block, is_sha_block}
+use Rattle.vm_prover.specs.Cut.{CutsTo, StepsLead, cut, has_sha_block, is_sha_block}
 use Rattle.vm_prover.specs.Cutting.{IsCutSoFar, cut_behind}
 use Rattle.vm_prover.specs.Survey.{EndsCut, GoesPast, TrapsCut}
 use Rattle.vm_prover.proofs.Lengths.{cuts_are_within, within_sum}
@@ -24,16 +24,16 @@ use Rattle.vm_prover.proofs.Lengths.{cuts_are_within, within_sum}
 -- ---- steps
 
 -- one more
-stepped_more : (loaded : Loaded) (from m next : Machine) (kinds : List Bool) (kind : Bool) → Stepped loaded from kinds m → step_of loaded m ≡ goes next → kind ≡ has_sha_block loaded m → Stepped loaded from (kinds ++ kind ∷ []) next
+stepped_more : (loaded : Loaded) (from m next : Machine) (kinds : List Bool) (kind : Bool) → StepsLead loaded from kinds m → step_of loaded m ≡ goes next → kind ≡ has_sha_block loaded m → StepsLead loaded from (kinds ++ kind ∷ []) next
 stepped_more loaded from m next [] kind s went is = (next, ap (step_of loaded) (sym s) ∙ went, is ∙ ap (has_sha_block loaded) s, refl)
 stepped_more loaded from m next (k ∷ kinds) kind s went is = (s.0, s.1, s.2, stepped_more loaded s.0 m next kinds kind s.3 went is)
 
-goes_on : (loaded : Loaded) (hints : List ℕ) (n : ℕ) (from to : Machine) (kinds : List Bool) → Goes loaded hints n from → Stepped loaded from kinds to → Goes loaded hints (n + length kinds) to
+goes_on : (loaded : Loaded) (hints : List ℕ) (n : ℕ) (from to : Machine) (kinds : List Bool) → Goes loaded hints n from → StepsLead loaded from kinds to → Goes loaded hints (n + length kinds) to
 goes_on loaded hints n from to [] h s = subst (λ k. Goes loaded hints k to) (omega arith) (subst (Goes loaded hints n) (sym s) h)
 goes_on loaded hints n from to (kind ∷ kinds) h s = subst (λ k. Goes loaded hints k to) (omega arith) (goes_on loaded hints (suc n) s.0 to kinds (from, h, s.1) s.3)
 
 -- steps from the start are a run
-pub stepped_goes : (loaded : Loaded) (hints : List ℕ) (n : ℕ) (to : Machine) (kinds : List Bool) → Stepped loaded (start loaded hints) kinds to → length kinds ≡ n → Goes loaded hints n to
+pub stepped_goes : (loaded : Loaded) (hints : List ℕ) (n : ℕ) (to : Machine) (kinds : List Bool) → StepsLead loaded (start loaded hints) kinds to → length kinds ≡ n → Goes loaded hints n to
 stepped_goes loaded hints n to kinds s e = subst (λ k. Goes loaded hints k to) (omega (arith, e)) (goes_on loaded hints 0 (start loaded hints) to kinds refl s)
 
 -- ---- the run so far

@@ -13,7 +13,7 @@ pub mod TreePuts
 pub mod Making
 pub mod Writes
 pub mod Chapters
-pub mod WrittenLemmas
+pub mod Causes
 pub mod Whole
 pub mod PlainCut
 pub mod PlainRun

@@ -25,13 +25,13 @@ use Rattle.table_format.specs.declared.item.Connector.{Connector}
 use Rattle.vm_prover.specs.declared.segment.Parts.{Parts}
 use Rattle.vm_prover.specs.Laws.{SegmentsGoOn}
 use Rattle.vm_prover.specs.Progress.{FitsVersion, segment_from}
-use Rattle.vm_prover.specs.Segments.{AreTaken, GoesOn, IsMade, IsReady, Run, Stands}
+use Rattle.vm_prover.specs.Segments.{AreTaken, GoesOnFor, IsMade, IsReadyFor, Run, SegmentsStand}
 use Rattle.vm_prover.proofs.StepLemmas.{comes_under_way, records_can_be_filled}
 
 -- ---- records
 
-pub ready_goes_on : (x : System) (run : Run x) (here program : List VmInstr) (m : Machine) (leaves : Leaves) (segments : List Segment) (lengths : List ℕ) (count : ℕ) → here ≡ program → IsReady run program m leaves segments lengths count
-    → GoesOn run here m (sum lengths) count
+pub ready_goes_on : (x : System) (run : Run x) (here program : List VmInstr) (m : Machine) (leaves : Leaves) (segments : List Segment) (lengths : List ℕ) (count : ℕ) → here ≡ program → IsReadyFor run program m leaves segments lengths count
+    → GoesOnFor run here m (sum lengths) count
 ready_goes_on x run here program m leaves segments lengths count same r = record {
   over = same ∙ r.over;
   under = comes_under_way x run.version run.image run.hints false segments lengths m leaves r.stand;
@@ -39,7 +39,7 @@ ready_goes_on x run here program m leaves segments lengths count same r = record
   few = r.few;
 }
 
-pub can_be_filled : (x : System) (run : Run x) (program : List VmInstr) (from m : Machine) (steps count : ℕ) (done : List StepRecord) → GoesOn run program from steps count → AreTaken run from steps count done m → AreRecords x program from.pc done
+pub can_be_filled : (x : System) (run : Run x) (program : List VmInstr) (from m : Machine) (steps count : ℕ) (done : List StepRecord) → GoesOnFor run program from steps count → AreTaken run from steps count done m → AreRecords x program from.pc done
 can_be_filled x run program from m steps count done g a =
     subst (λ p. AreRecords x p from.pc done) (sym g.over) (records_can_be_filled x run.image run.hints from m steps done a.under (omega (arith, a.count_is, g.few)))
 
@@ -83,7 +83,7 @@ pub record HasParts (from m : Machine) (ends : Bool) (old new : Leaves) (tables 
   pub leaves_are : new ≡ with_pages old pages
 
 pub is_made : (x : System) (run : Run x) (program : List VmInstr) (from m : Machine) (old new : Leaves) (segments : List Segment) (lengths : List ℕ) (count : ℕ) (done : List StepRecord) (tables : Contents) (ends : Bool) (pages : List Touched) (parts : Parts)
-    → SegmentsGoOn x → IsReady run program from old segments lengths count → AreTaken run from (sum lengths) count done m → SegmentFilled x program done tables → AreTouched m.start m.now m.times pages
+    → SegmentsGoOn x → IsReadyFor run program from old segments lengths count → AreTaken run from (sum lengths) count done m → SegmentFilled x program done tables → AreTouched m.start m.now m.times pages
     → HasParts from m ends old new tables pages parts → IsMade run ends segments lengths count m new parts
 is_made x run program from m old new segments lengths count done tables ends pages parts on r a filled touched h =
     let next = on run.version run.image run.hints segments lengths from m old done tables ends pages run.can r.stand a.under (fits_version run.version (length done) (omega (arith, a.count_is, r.few)))
@@ -106,6 +106,6 @@ is_made x run program from m old new segments lengths count done tables ends pag
         pages = sym h.pages_are;
         siblings = sym h.siblings_are;
       };
-      stand = subst (λ n. Stands run ends (segments ++ segment_from from done tables ends old pages ∷ []) (lengths ++ n ∷ []) m new) a.count_is
-          (subst (Stands run ends (segments ++ segment_from from done tables ends old pages ∷ []) (lengths ++ length done ∷ []) m) (sym h.leaves_are) next);
+      stand = subst (λ n. SegmentsStand run ends (segments ++ segment_from from done tables ends old pages ∷ []) (lengths ++ n ∷ []) m new) a.count_is
+          (subst (SegmentsStand run ends (segments ++ segment_from from done tables ends old pages ∷ []) (lengths ++ length done ∷ []) m) (sym h.leaves_are) next);
     }

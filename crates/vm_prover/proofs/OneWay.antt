@@ -5,7 +5,7 @@ use Rattle.rv_run.specs.declared.outcome.Trap.{Trap}
 use Rattle.rv_run.specs.Machine.{Machine, start}
 use Rattle.rv_run.specs.Step.{ends, goes, step_of, traps}
 use Rattle.rv_run.specs.Run.{Goes}
-use Rattle.vm_prover.specs.Cut.{CutsTo, Stepped, cut}
+use Rattle.vm_prover.specs.Cut.{CutsTo, StepsLead, cut}
 use Rattle.vm_prover.specs.declared.proving.Proved.{Proved}
 use Rattle.vm_prover.specs.declared.proving.Proving.TheVariants as proving
 use Rattle.vm_prover.specs.Proving.{EndsSo, ProvingIsOne}
@@ -34,22 +34,22 @@ same_next : (loaded : Loaded) (from a b : Machine) → step_of loaded from ≡ g
 same_next loaded from a b x y = let step : goes b ≡ goes a = sym y ∙ x in cc
 
 -- steps that stop are at least as many as any others, and begin with these
-begins : (loaded : Loaded) (from m k : Machine) (ms ks : List Bool) → Stepped loaded from ms m → Stops loaded m → Stepped loaded from ks k → (rest : List Bool) × (ms ≡ ks ++ rest)
+begins : (loaded : Loaded) (from m k : Machine) (ms ks : List Bool) → StepsLead loaded from ms m → Stops loaded m → StepsLead loaded from ks k → (rest : List Bool) × (ms ≡ ks ++ rest)
 begins loaded from m k ms [] s stop t = (ms, refl)
 begins loaded from m k [] (b ∷ ks) s stop t = absurd (stop t.0 (ap (step_of loaded) s ∙ t.1))
 begins loaded from m k (a ∷ ms) (b ∷ ks) s stop t =
     let next : t.0 ≡ s.0 = same_next loaded from s.0 t.0 s.1 t.1 in
-    let rest = begins loaded s.0 m k ms ks s.3 stop (subst (λ x. Stepped loaded x ks k) next t.3) in
+    let rest = begins loaded s.0 m k ms ks s.3 stop (subst (λ x. StepsLead loaded x ks k) next t.3) in
     (rest.0, (λ i. (s.2 ∙ sym t.2) i ∷ rest.1 i))
 
 -- both stop: they are the same
-same_steps : (loaded : Loaded) (from m k : Machine) (ms ks : List Bool) → Stepped loaded from ms m → Stops loaded m → Stepped loaded from ks k → Stops loaded k → (ms ≡ ks) × (m ≡ k)
+same_steps : (loaded : Loaded) (from m k : Machine) (ms ks : List Bool) → StepsLead loaded from ms m → Stops loaded m → StepsLead loaded from ks k → Stops loaded k → (ms ≡ ks) × (m ≡ k)
 same_steps loaded from m k [] [] s stop t end = (refl, s ∙ sym t)
 same_steps loaded from m k [] (b ∷ ks) s stop t end = absurd (stop t.0 (ap (step_of loaded) s ∙ t.1))
 same_steps loaded from m k (a ∷ ms) [] s stop t end = absurd (end s.0 (ap (step_of loaded) t ∙ s.1))
 same_steps loaded from m k (a ∷ ms) (b ∷ ks) s stop t end =
     let next : t.0 ≡ s.0 = same_next loaded from s.0 t.0 s.1 t.1 in
-    let rest = same_steps loaded s.0 m k ms ks s.3 stop (subst (λ x. Stepped loaded x ks k) next t.3) end in
+    let rest = same_steps loaded s.0 m k ms ks s.3 stop (subst (λ x. StepsLead loaded x ks k) next t.3) end in
     ((λ i. (s.2 ∙ sym t.2) i ∷ rest.0 i), rest.1)
 
 -- ---- runs that are cut

@@ -15,7 +15,7 @@ use Rattle.rv_decode.specs.Listing.{decode_of}
 use Rattle.rv_run.specs.Machine.{Machine, start}
 use Rattle.rv_run.specs.Run.{Goes}
 use Rattle.rv_run.specs.Step.{goes, step_of}
-use Rattle.vm_prover.specs.Cut.{CutsTo, Stepped, cut, cut_on, ends_before, has_sha_block, is_sha_block}
+use Rattle.vm_prover.specs.Cut.{CutsTo, StepsLead, cut, cut_on, ends_before, has_sha_block, is_sha_block}
 
 -- ---- its steps
 
@@ -37,17 +37,17 @@ module _ (loaded : Loaded) (plain : HasNoShaBlock loaded) where
   next_is_plain m = word_is_plain (word_of loaded m.pc) (plain m.pc)
 
   -- each of its steps is of the kind that is no SHA block
-  pub plain_kinds : (from to : Machine) (kinds : List Bool) → Stepped loaded from kinds to → kinds ≡ replicate (length kinds) false
+  pub plain_kinds : (from to : Machine) (kinds : List Bool) → StepsLead loaded from kinds to → kinds ≡ replicate (length kinds) false
   plain_kinds from to [] stepped = refl
   plain_kinds from to (kind ∷ kinds) stepped =
       let here : kind ≡ false = stepped.2 ∙ next_is_plain from in
       (λ i. here i ∷ plain_kinds stepped.0 to kinds stepped.3 i)
 
-  one_more : (from m next : Machine) (steps : ℕ) → Stepped loaded from (replicate steps false) m → step_of loaded m ≡ goes next → Stepped loaded from (replicate (suc steps) false) next
+  one_more : (from m next : Machine) (steps : ℕ) → StepsLead loaded from (replicate steps false) m → step_of loaded m ≡ goes next → StepsLead loaded from (replicate (suc steps) false) next
   one_more from m next zero stepped went = (next, ap (step_of loaded) (sym stepped) ∙ went, sym (next_is_plain from), refl)
   one_more from m next (suc steps) stepped went = (stepped.0, stepped.1, stepped.2, one_more stepped.0 m next steps stepped.3 went)
 
-  plain_steps : (hints : List ℕ) (steps : ℕ) (m : Machine) → Goes loaded hints steps m → Stepped loaded (start loaded hints) (replicate steps false) m
+  plain_steps : (hints : List ℕ) (steps : ℕ) (m : Machine) → Goes loaded hints steps m → StepsLead loaded (start loaded hints) (replicate steps false) m
   plain_steps hints zero m went = went
   plain_steps hints (suc steps) m went = one_more (start loaded hints) went.0 m steps (plain_steps hints steps went.0 went.1) went.2
 

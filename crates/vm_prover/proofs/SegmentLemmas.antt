@@ -38,8 +38,7 @@ use Rattle.vm_filler.specs.Hints.{hints_of}
 use Rattle.vm_filler.specs.Laws.{FilledSegmentsHold, FilledSegmentsAreCanonical, FilledSegmentsCountRecords, FilledSegmentsSpell}
 use Rattle.vm_filler.specs.Segment.{SegmentFilled, IsFilledSegment}
 use Rattle.vm_prover.specs.Laws.{NoSegmentsStand, SegmentsAreMade, SegmentsGoOn}
-use Rattle.vm_prover.specs.Written.{connector_of}
-use Rattle.vm_prover.specs.Progress.{CanProve, UnderWay, Progress, FitsVersion, segment_from}
+use Rattle.vm_prover.specs.Progress.{CanProve, UnderWay, Progress, FitsVersion, segment_from, connector_between}
 use Rattle.vm_prover.proofs.ChainLemmas.{linked_more, last_pc_more, last_root_more, last_pc_low, ends_more, rows_more, sum_more, spell_more}
 use Rattle.vm_prover.proofs.LeafLemmas.{rising, machine, leaves_match, leaves_after, leaves_long}
 
@@ -96,7 +95,7 @@ module _ (x : System) (canonical : FilledSegmentsAreCanonical x) (version : ℕ)
   unfolding s
   is_canonical = canonical (limits_of version) (program_of image) done s (program_rises image) is_filled begins_low fits.rows
 
-  pub is_made : IsSegmentOf version (connector_of from m ends) (root leaves) (root (with_pages leaves pages)) c pages (siblings_of leaves (labels_of pages)) (segment_from from done c ends leaves pages)
+  pub is_made : IsSegmentOf version (connector_between from m ends) (root leaves) (root (with_pages leaves pages)) c pages (siblings_of leaves (labels_of pages)) (segment_from from done c ends leaves pages)
   unfolding s
   is_made = (
     record {

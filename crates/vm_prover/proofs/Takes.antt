@@ -10,11 +10,11 @@ use Rattle.vm_executor.specs.Machine.{Machine, Goes, begun}
 use Rattle.vm_executor.specs.Runs.{IsWent}
 use Rattle.vm_executor.specs.State.{IsStep}
 use Rattle.vm_prover.specs.Progress.{UnderWay}
-use Rattle.vm_prover.specs.Segments.{AreTaken, GoesOn, Run}
+use Rattle.vm_prover.specs.Segments.{AreTaken, GoesOnFor, Run}
 use Rattle.vm_prover.proofs.EndLemmas.{ending_runs_go_on}
 use Rattle.vm_prover.proofs.StepLemmas.{records_go_on}
 
-pub none_taken : (x : System) (run : Run x) (program : List VmInstr) (from m : Machine) (steps count : ℕ) → GoesOn run program from steps count → m ≡ begun from → AreTaken run from steps 0 [] m
+pub none_taken : (x : System) (run : Run x) (program : List VmInstr) (from m : Machine) (steps count : ℕ) → GoesOnFor run program from steps count → m ≡ begun from → AreTaken run from steps 0 [] m
 none_taken x run program from m steps count g is = record { under = subst (UnderWay x run.image run.hints from steps []) (sym is) g.under; count_is = refl }
 
 -- what the machine answers, over the program that it keeps
@@ -30,13 +30,13 @@ pub answers : (here program : List VmInstr) (s t : Machine) (answer : Machined) 
 answers here program s t answer same step = record { here = here; same = same; step = step }
 
 -- a step on the way goes on
-pub goes_on : (x : System) (run : Run x) (program : List VmInstr) (from s t : Machine) (steps count number : ℕ) (done : List StepRecord) (answer : Machined) → GoesOn run program from steps count → AreTaken run from steps number done s
+pub goes_on : (x : System) (run : Run x) (program : List VmInstr) (from s t : Machine) (steps count number : ℕ) (done : List StepRecord) (answer : Machined) → GoesOnFor run program from steps count → AreTaken run from steps number done s
     → number < count → Answers program s t answer → IsWent answer
 goes_on x run program from s t steps count number done answer g a more step =
     let both = ending_runs_go_on run.image run.hints run.steps run.code run.public_bytes (steps + length done) s t answer run.can.file run.can.bytes run.ends a.under.ran (step_over program (program_of run.image) s t answer step g.over) in
     both.0 (omega (arith, a.count_is, more, g.within))
 
-pub taken_more : (x : System) (run : Run x) (program : List VmInstr) (from s t : Machine) (steps count number : ℕ) (done more : List StepRecord) (d : StepRecord) (answer : Machined) → GoesOn run program from steps count
+pub taken_more : (x : System) (run : Run x) (program : List VmInstr) (from s t : Machine) (steps count number : ℕ) (done more : List StepRecord) (d : StepRecord) (answer : Machined) → GoesOnFor run program from steps count
     → AreTaken run from steps number done s → number < count → Answers program s t answer → answer ≡ Went d → more ≡ done ++ d ∷ [] → AreTaken run from steps (number + 1) more t
 taken_more x run program from s t steps count number done more d answer g a less step went is =
     let goes : Goes (program_of run.image) s t d = subst (λ w. IsStep (program_of run.image) s t w) went (step_over program (program_of run.image) s t answer step g.over) in
@@ -51,10 +51,10 @@ no_other (Went d) w other = other d refl
 no_other (Ended code) w other = w
 no_other Stuck w other = w
 
-pub always_goes : (x : System) (run : Run x) (program : List VmInstr) (from s t : Machine) (steps count number : ℕ) (done : List StepRecord) (answer : Machined) → GoesOn run program from steps count → AreTaken run from steps number done s
+pub always_goes : (x : System) (run : Run x) (program : List VmInstr) (from s t : Machine) (steps count number : ℕ) (done : List StepRecord) (answer : Machined) → GoesOnFor run program from steps count → AreTaken run from steps number done s
     → number < count → Answers program s t answer → ((d : StepRecord) → answer ≡ Went d → ⊥) → ⊥
 always_goes x run program from s t steps count number done answer g a less step other = no_other answer (goes_on x run program from s t steps count number done answer g a less step) other
 
 -- and a step may be done: the time is early
-pub early : (x : System) (run : Run x) (program : List VmInstr) (from s : Machine) (steps count number : ℕ) (done : List StepRecord) → GoesOn run program from steps count → AreTaken run from steps number done s → number < count → s.time ≤ 536870848
+pub early : (x : System) (run : Run x) (program : List VmInstr) (from s : Machine) (steps count number : ℕ) (done : List StepRecord) → GoesOnFor run program from steps count → AreTaken run from steps number done s → number < count → s.time ≤ 536870848
 early x run program from s steps count number done g a more = omega (arith, a.under.in_time, a.count_is, more, g.few)

@@ -34,14 +34,14 @@ use Rattle.vm_prover.specs.declared.proving.Proved.{Proved}
 use Rattle.vm_prover.specs.declared.proving.Proving.{Proving}
 use Rattle.vm_prover.specs.declared.proving.Proving.TheVariants as proving
 use Rattle.vm_prover.specs.Proving.{ComesTo, EndsSo, LeavesBehind, Proves, SpellsRun}
-use Rattle.vm_prover.specs.Segments.{GoesOnWriting, IsBegun, IsEnding, IsLater, IsPlan, IsToWrite, IsWhole, IsWritten, Run, Stands, WritesFile}
+use Rattle.vm_prover.specs.Segments.{GoesOnWriting, IsBegun, IsEnding, IsLater, IsPlan, IsToWrite, IsWholeFile, IsWritten, Run, SegmentsStand, WritesFile}
 use Rattle.vm_prover.specs.declared.plain_run.Surveyed.{Surveyed}
 use Rattle.vm_prover.specs.Survey.{EndsCut, IsSurvey}
 use Rattle.vm_prover.proofs.EndLemmas.{ended_segments_prove}
 use Rattle.vm_prover.proofs.Lengths.{cuts_are_within, lengths_are_the_steps, one_at_least, within_each}
 use Rattle.vm_prover.proofs.SegmentLemmas.{no_segments}
 use Rattle.vm_prover.proofs.Writes.{sound_call, wholly}
-use Rattle.vm_prover.proofs.WrittenLemmas.{cause_more}
+use Rattle.vm_prover.proofs.Causes.{cause_more}
 
 -- ---- the plan
 
@@ -82,7 +82,7 @@ module _ (x : System) (fits : ExtensionFits x) (image : Loaded) (hints : Hints) 
     plan = subst (IsPlan ending.steps) (sym are) ends.plan;
     written = record {
       segments = [];
-      stand = subst (λ t. Stands run_of false [] [] t leaves) (sym begins) (subst (Stands run_of false [] [] (starting image hints)) (sym (fun_ext lays)) (no_segments x w.version image hints can));
+      stand = subst (λ t. SegmentsStand run_of false [] [] t leaves) (sym begins) (subst (SegmentsStand run_of false [] [] (starting image hints)) (sym (fun_ext lays)) (no_segments x w.version image hints can));
       told = told_head s.output.written begun.told;
       creating = begun.creating;
       writing = begun.writing;
@@ -95,7 +95,7 @@ module _ (x : System) (fits : ExtensionFits x) (image : Loaded) (hints : Hints) 
 
   -- ---- behind the last one
 
-  spells : (told new : Option (List ℕ)) (lengths : List ℕ) (m : Machine) (leaves : Leaves) (segments : List Segment) (claim : Claim) → lengths ≡ ending.lengths.items → Stands run_of true segments lengths m leaves → IsPlan ending.steps lengths
+  spells : (told new : Option (List ℕ)) (lengths : List ℕ) (m : Machine) (leaves : Leaves) (segments : List Segment) (claim : Claim) → lengths ≡ ending.lengths.items → SegmentsStand run_of true segments lengths m leaves → IsPlan ending.steps lengths
       → claim ≡ record { code = ending.code; public = ending.public; path = path_of leaves PUBLIC_LABEL }
       → IfSome told (λ bytes. bytes ≡ head_text w.version ++ flat_map piece_text segments) → new ≡ then_more told (end_text claim) → IfSome new (SpellsRun x w.version image hints ending.lengths.items ending.code ending.public)
   unfolding run_of
@@ -113,7 +113,7 @@ module _ (x : System) (fits : ExtensionFits x) (image : Loaded) (hints : Hints) 
 
   pub whole : (program : List VmInstr) (lengths : List ℕ) (start m : Machine) (before leaves : Leaves) (v v' : TableWriter) (s t u : HostState) (claim : Claim) (result : Result (Unit {0}) HostError) → lengths ≡ ending.lengths.items
       → IsToWrite run_of program lengths start before w s → IsWritten run_of true lengths m leaves v t → claim ≡ record { code = ending.code; public = ending.public; path = path_of leaves PUBLIC_LABEL }
-      → Appends (end_text claim) false true v v' t u result → OnOk result (IsWhole x w.version image hints ending u)
+      → Appends (end_text claim) false true v v' t u result → OnOk result (IsWholeFile x w.version image hints ending u)
   unfolding run_of
   whole program lengths start m before leaves v v' s t u claim (Err e) are to so claims h = tt
   whole program lengths start m before leaves v v' s t u claim (Ok r) are to so claims h =
@@ -172,7 +172,7 @@ and_noted P names (Ok v) p n = (p, n)
 and_noted P names (Err e) p n = tt
 
 pub file_written : (x : System) (version : ℕ) (image : Loaded) (hints : Hints) (ending : Ending) (name : List ℕ) (s t u : HostState) (w : TableWriter) (result : Result (Unit {0}) HostError) → Begins version name s t (Ok w) → GoesOnWriting t u result
-    → OnOk result (IsWhole x w.version image hints ending u) → WritesFile x version image hints ending name s u result
+    → OnOk result (IsWholeFile x w.version image hints ending u) → WritesFile x version image hints ending name s u result
 file_written x version image hints ending name s t u w result b g done =
     let same : u.named ≡ t.named = ap (λ (y : HostState). y.named) g.frame in
     let named : u.named ≡ then_more s.named ((Out, name) ∷ []) = same ∙ noted s.named t.named (Out, name) w b.named in
@@ -183,7 +183,7 @@ file_written x version image hints ending name s t u w result b g done =
           g.frame ∙ ap (λ (y : HostState). record y { faults = u.faults; output = u.output }) b.frame
           ∙ ap (λ (names : Option (List (Place × List ℕ))). record s { faults = u.faults; output = u.output; named = names; content = t.content }) (sym same)
           ∙ ap (λ c. record s { faults = u.faults; output = u.output; named = u.named; content = c }) (sym (ap (λ (y : HostState). y.content) g.frame));
-      whole = and_noted (IsWhole x version image hints ending u) (u.named ≡ then_more s.named ((Out, name) ∷ [])) result (subst (λ v. OnOk result (IsWhole x v image hints ending u)) b.writer.0 done) named;
+      whole = and_noted (IsWholeFile x version image hints ending u) (u.named ≡ then_more s.named ((Out, name) ∷ [])) result (subst (λ v. OnOk result (IsWholeFile x v image hints ending u)) b.writer.0 done) named;
     }
 
 -- ---- what a prover does

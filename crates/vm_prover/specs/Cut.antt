@@ -21,9 +21,9 @@ abbrev pub has_sha_block : Loaded → Machine → Bool
 has_sha_block loaded m = is_sha_block (option_and_then decode_of (word_of loaded m.pc))
 
 -- steps of these kinds lead from one state to another
-abbrev pub Stepped : Loaded → Machine → List Bool → Machine → Type 0
-Stepped loaded from [] to = to ≡ from
-Stepped loaded from (kind ∷ kinds) to = (next : Machine) × (step_of loaded from ≡ goes next) × (kind ≡ has_sha_block loaded from) × Stepped loaded next kinds to
+abbrev pub StepsLead : Loaded → Machine → List Bool → Machine → Type 0
+StepsLead loaded from [] to = to ≡ from
+StepsLead loaded from (kind ∷ kinds) to = (next : Machine) × (step_of loaded from ≡ goes next) × (kind ≡ has_sha_block loaded from) × StepsLead loaded next kinds to
 
 abbrev pub sha_blocks_in : List Bool → ℕ
 sha_blocks_in [] = 0
@@ -50,7 +50,7 @@ cut per_segment kinds = cut_on per_segment 0 0 kinds
 pub record CutsTo (loaded : Loaded) (hints : List ℕ) (per_segment steps : ℕ) (lengths : List ℕ) : Type 0 where
   pub kinds : List Bool
   pub last : Machine
-  pub stepped : Stepped loaded (start loaded hints) kinds last
+  pub stepped : StepsLead loaded (start loaded hints) kinds last
   pub count : length kinds ≡ steps
   pub are : lengths ≡ cut per_segment kinds
 

@@ -27,8 +27,7 @@ use Rattle.vm_executor.specs.Runs.{IsWent, Ran, starting}
 use Rattle.vm_executor.specs.State.{IsStep}
 use Rattle.vm_filler.specs.Segment.{SegmentFilled}
 use Rattle.table_format.specs.Writing.{IsSegmentOf}
-use Rattle.vm_prover.specs.Written.{connector_of}
-use Rattle.vm_prover.specs.Progress.{CanProve, OwnsRows, UnderWay, Progress, FitsVersion, StatesRun, segment_from, file_of}
+use Rattle.vm_prover.specs.Progress.{CanProve, OwnsRows, UnderWay, Progress, FitsVersion, StatesRun, segment_from, file_of, connector_between}
 
 -- tables for all opcodes of steps are tables for the rows of every program
 abbrev pub AllOpcodesOwnRows : System → Type 0
@@ -66,7 +65,7 @@ abbrev pub SegmentsAreMade : System → Type 0
 SegmentsAreMade x = (version : ℕ) (image : Loaded) (hints : Hints) (segments : List Segment) (lengths : List ℕ) (from m : Machine) (leaves : Leaves) (done : List StepRecord) (c : Contents) (ends : Bool) (pages : List Touched)
     → CanProve x version image hints → Progress x version image hints false segments lengths from leaves → UnderWay x image hints from (sum lengths) done m → FitsVersion version (length done)
     → SegmentFilled x (program_of image) done c → AreTouched m.start m.now m.times pages
-    → IsSegmentOf version (connector_of from m ends) (root leaves) (root (with_pages leaves pages)) c pages (siblings_of leaves (labels_of pages)) (segment_from from done c ends leaves pages)
+    → IsSegmentOf version (connector_between from m ends) (root leaves) (root (with_pages leaves pages)) c pages (siblings_of leaves (labels_of pages)) (segment_from from done c ends leaves pages)
 
 -- Where the first pages of a segment were put into a tree, the next one gives the leaves with one page more.
 abbrev pub PutsGoOn : Type 0

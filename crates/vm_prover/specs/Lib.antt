@@ -2,7 +2,6 @@ pub mod Cut
 pub mod Survey
 pub mod Cutting
 pub mod Progress
-pub mod Written
 pub mod Laws
 pub mod Segments
 pub mod Proving

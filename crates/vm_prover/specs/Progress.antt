@@ -25,6 +25,7 @@ use Rattle.page_tree.specs.Path.{path_of}
 use Rattle.page_tree.specs.Start.{start_map}
 use Rattle.page_tree.specs.Tree.{Leaves, root}
 use Rattle.vm_transpile.specs.Program.{program_of}
+use Rattle.table_format.specs.declared.item.Connector.{Connector}
 use Rattle.vm_executor.specs.Machine.{Machine, Since}
 use Rattle.vm_executor.specs.Runs.{Ran, starting}
 use Rattle.acceptance.specs.Accepts.{Accepts, AreLinked, OnlyLastEnds, last_pc, last_root, shape_of, steps_in}
@@ -124,3 +125,7 @@ pub record StatesRun (x : System) (image : Loaded) (hints : Hints) (lengths : Li
   pub spelled : List HintEvent
   pub spell : Spell x file.segments spelled
   pub takes : TakesHints image hints (sum lengths) spelled
+
+-- where a segment begins and ends that leads from a machine to another
+abbrev pub connector_between : Machine → Machine → Bool → Connector
+connector_between from m ends = record { pc_start = from.pc; pc_end = m.pc; end_time = m.time; ends = ends }

@@ -36,7 +36,7 @@ pub record Run (x : System) : Type 0 where
   pub ends : Ends image hints steps code public_bytes
 
 -- From a machine, which has run so many steps of it, so many more go on.
-pub record GoesOn {x : System} (run : Run x) (program : List VmInstr) (from : Machine) (steps count : ℕ) : Type 0 where
+pub record GoesOnFor {x : System} (run : Run x) (program : List VmInstr) (from : Machine) (steps count : ℕ) : Type 0 where
   pub over : program ≡ program_of run.image
   pub under : UnderWay x run.image run.hints from steps [] (begun from)
   pub within : steps + count ≤ run.steps
@@ -48,13 +48,13 @@ pub record AreTaken {x : System} (run : Run x) (from : Machine) (steps count : �
   pub count_is : length done ≡ count
 
 -- Whole segments of these lengths lead to a machine, and its memory to these leaves.
-abbrev pub Stands : {x : System} → Run x → Bool → List Segment → List ℕ → Machine → Leaves → Type 0
-Stands {x} run ended segments lengths m leaves = Progress x run.version run.image run.hints ended segments lengths m leaves
+abbrev pub SegmentsStand : {x : System} → Run x → Bool → List Segment → List ℕ → Machine → Leaves → Type 0
+SegmentsStand {x} run ended segments lengths m leaves = Progress x run.version run.image run.hints ended segments lengths m leaves
 
 -- None of them ends the run, and behind them so many steps more go on.
-pub record IsReady {x : System} (run : Run x) (program : List VmInstr) (m : Machine) (leaves : Leaves) (segments : List Segment) (lengths : List ℕ) (count : ℕ) : Type 0 where
+pub record IsReadyFor {x : System} (run : Run x) (program : List VmInstr) (m : Machine) (leaves : Leaves) (segments : List Segment) (lengths : List ℕ) (count : ℕ) : Type 0 where
   pub over : program ≡ program_of run.image
-  pub stand : Stands run false segments lengths m leaves
+  pub stand : SegmentsStand run false segments lengths m leaves
   pub within : sum lengths + count ≤ run.steps
   pub few : count ≤ 16384
 
@@ -62,7 +62,7 @@ pub record IsReady {x : System} (run : Run x) (program : List VmInstr) (m : Mach
 pub record IsMade {x : System} (run : Run x) (ends : Bool) (segments : List Segment) (lengths : List ℕ) (count : ℕ) (m : Machine) (leaves : Leaves) (parts : Parts) : Type 0 where
   pub segment : Segment
   pub made : IsMadeOf parts.connector parts.opening.start parts.opening.end parts.tables parts.pages.items parts.opening.siblings.items segment
-  pub stand : Stands run ends (segments ++ segment ∷ []) (lengths ++ count ∷ []) m leaves
+  pub stand : SegmentsStand run ends (segments ++ segment ∷ []) (lengths ++ count ∷ []) m leaves
 
 -- ---- what is written
 
@@ -75,7 +75,7 @@ pub record IsWriting (version : ℕ) (w : TableWriter) : Type 0 where
 -- The output stands open, with the head and whole segments that lead to a machine.
 pub record IsWritten {x : System} (run : Run x) (ended : Bool) (lengths : List ℕ) (m : Machine) (leaves : Leaves) (w : TableWriter) (s : HostState) : Type 0 where
   pub segments : List Segment
-  pub stand : Stands run ended segments lengths m leaves
+  pub stand : SegmentsStand run ended segments lengths m leaves
   pub told : IfSome s.output.written (λ bytes. bytes ≡ head_text run.version ++ flat_map piece_text segments)
   pub creating : s.output.creating ≡ true
   pub writing : IsWriting run.version w
@@ -105,7 +105,7 @@ pub record IsEnding (image : Loaded) (hints : Hints) (ending : Ending) : Type 0 
   pub plan : IsPlan ending.steps ending.lengths.items
 
 -- the whole file of the run was written, and its output closed
-pub record IsWhole (x : System) (version : ℕ) (image : Loaded) (hints : Hints) (ending : Ending) (s : HostState) : Type 0 where
+pub record IsWholeFile (x : System) (version : ℕ) (image : Loaded) (hints : Hints) (ending : Ending) (s : HostState) : Type 0 where
   pub closed : s.output.creating ≡ false
   pub written : IfSome s.output.written (SpellsRun x version image hints ending.lengths.items ending.code ending.public)
 
@@ -114,7 +114,7 @@ pub record WritesFile (x : System) (version : ℕ) (image : Loaded) (hints : Hin
   pub cause : HasCause s.faults t.faults result
   pub named : GrowsByPart s.named t.named ((Out, name) ∷ [])
   pub frame : t ≡ record s { faults = t.faults; output = t.output; named = t.named; content = t.content }
-  pub whole : OnOk result (IsWhole x version image hints ending t × (t.named ≡ then_more s.named ((Out, name) ∷ [])))
+  pub whole : OnOk result (IsWholeFile x version image hints ending t × (t.named ≡ then_more s.named ((Out, name) ∷ [])))
 
 -- a call that goes on with an output: it writes, and may fail
 pub record GoesOnWriting {T : Type 0} (s t : HostState) (result : Result T HostError) : Type 0 where

@@ -7,7 +7,7 @@ ghost use Rattle.vm_isa.specs.Words.{IsBytes};
 ghost use Rattle.vm_transpile.specs.Program.{program_of as rows_of};
 ghost use Rattle.acceptance.specs.Example.{IsVersion};
 ghost use Rattle.vm_prover.specs.Progress.{CanProve, OwnsRows};
-ghost use Rattle.vm_prover.specs.Segments.{GoesOnWriting, IsBegun, IsEnding, IsSegmentOfParts, IsToWrite, IsWhole, IsWriting, IsWritten, Run, WritesFile, WritesPiece};
+ghost use Rattle.vm_prover.specs.Segments.{GoesOnWriting, IsBegun, IsEnding, IsSegmentOfParts, IsToWrite, IsWholeFile, IsWriting, IsWritten, Run, WritesFile, WritesPiece};
 
 use crate::plan::Ending;
 use crate::segment::{Parts, make_segment};
@@ -86,7 +86,7 @@ fn write_run<E: Extension, H: Host>(
     requires ends { IsEnding image.now hints.items ending.now }
     requires begun { IsBegun writer.old (H.state host.old) }
     ensures writes { GoesOnWriting (H.state host.old) (H.state host.new) result }
-    ensures whole { OnOk result (IsWhole (E.system ext.now) writer.old.version image.now hints.items ending.now (H.state host.new)) }
+    ensures whole { OnOk result (IsWholeFile (E.system ext.now) writer.old.version image.now hints.items ending.now (H.state host.new)) }
 {
     let mut machine = Machine::new(alloc, program, image, hints);
     let mut tree = Tree::of_image(alloc, image)?;

@@ -2,7 +2,7 @@
 ghost use Rattle.std.specs.Prelude.{◌≡◌, ◌≤◌, ℕ, IfOk};
 ghost use Rattle.air_core.specs.System.{System};
 ghost use Rattle.vm_executor.specs.State.{machine_of, program_of};
-ghost use Rattle.vm_prover.specs.Segments.{AreTaken, GoesOn, Run};
+ghost use Rattle.vm_prover.specs.Segments.{AreTaken, GoesOnFor, Run};
 
 use crate::OutOfMemory;
 use std::alloc::{AllocError, Global};
@@ -15,9 +15,9 @@ pub fn take_records(
     machine: &mut Machine<'_>,
     count: u32,
 ) -> Result<Vec<StepRecord>, OutOfMemory>
-    requires { (x : System) × ((run : Run x) × ((steps : ℕ) × GoesOn run (program_of machine.old) (machine_of machine.old) steps count)) }
+    requires { (x : System) × ((run : Run x) × ((steps : ℕ) × GoesOnFor run (program_of machine.old) (machine_of machine.old) steps count)) }
     ensures program { program_of machine.new ≡ program_of machine.old }
-    ensures taken { IfOk result (λ records. (x : System) (run : Run x) (steps : ℕ) → GoesOn run (program_of machine.old) (machine_of machine.old) steps count
+    ensures taken { IfOk result (λ records. (x : System) (run : Run x) (steps : ℕ) → GoesOnFor run (program_of machine.old) (machine_of machine.old) steps count
         → AreTaken run (machine_of machine.old) steps count records.items (machine_of machine.new)) }
 {
     machine.start_segment();

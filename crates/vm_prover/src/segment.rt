@@ -3,7 +3,7 @@ ghost use Rattle.std.specs.Prelude.{◌≡◌, ℕ, List, IfOk};
 ghost use Rattle.vm_trace.specs.File.{Segment};
 ghost use Rattle.page_tree.specs.Kept.{leaves_of};
 ghost use Rattle.vm_executor.specs.State.{machine_of, program_of};
-ghost use Rattle.vm_prover.specs.Segments.{IsMade, IsReady, Run};
+ghost use Rattle.vm_prover.specs.Segments.{IsMade, IsReadyFor, Run};
 
 use crate::OutOfMemory;
 use crate::laws::segments_go_on;
@@ -38,9 +38,9 @@ pub fn make_segment<E: Extension>(
     ends: bool,
 ) -> Result<Parts, OutOfMemory>
     requires same { program_of machine.old ≡ program.now }
-    requires ready { (run : Run (E.system ext.now)) × ((segments : List Segment) × ((lengths : List ℕ) × IsReady run program.now (machine_of machine.old) (leaves_of tree.old) segments lengths count)) }
+    requires ready { (run : Run (E.system ext.now)) × ((segments : List Segment) × ((lengths : List ℕ) × IsReadyFor run program.now (machine_of machine.old) (leaves_of tree.old) segments lengths count)) }
     ensures program { program_of machine.new ≡ program_of machine.old }
-    ensures made { IfOk result (λ parts. (run : Run (E.system ext.now)) (segments : List Segment) (lengths : List ℕ) → IsReady run program.now (machine_of machine.old) (leaves_of tree.old) segments lengths count
+    ensures made { IfOk result (λ parts. (run : Run (E.system ext.now)) (segments : List Segment) (lengths : List ℕ) → IsReadyFor run program.now (machine_of machine.old) (leaves_of tree.old) segments lengths count
         → IsMade run ends segments lengths count (machine_of machine.new) (leaves_of tree.new) parts) }
 {
     segments_go_on::<E>();

@@ -14,25 +14,25 @@ use Rattle.vm_tool.specs.declared.answer.Halt.{Halt}
 use Rattle.vm_tool.specs.declared.answer.Halt.TheVariants.{Found, Host}
 use Rattle.vm_tool.specs.Answer.{status_of}
 use Rattle.vm_tool.specs.ReadFile.{Quiet}
-use Rattle.vm_tool.specs.ProveCommand.{claim_of, KeepsOutput, WritesTables, MayWriteTables, LeavesTables}
+use Rattle.vm_tool.specs.ProveCommand.{stated_claim, KeepsOutput, WritesTables, MayWriteTables, LeavesTables}
 use Rattle.vm_tool.specs.Outcome.{WritesNothing, WritesOutput}
 use Rattle.vm_tool.proofs.Stages.{Fails}
 
 -- an answer that is no success has no claim
-no_claim : (found : Answer) → (status_of found ≡ Done → ⊥) → claim_of found ≡ None
-no_claim answer.Words fails = refl
-no_claim answer.ElfTooLong fails = refl
-no_claim (answer.ElfRefused refusal) fails = refl
-no_claim answer.HintLimit fails = refl
-no_claim (answer.Exit code public_bytes steps) fails = refl
-no_claim (answer.Listing rows) fails = refl
-no_claim (answer.Proved claim) fails = absurd (fails refl)
-no_claim (answer.Sampled number claim) fails = absurd (fails refl)
-no_claim answer.SegmentLimit fails = refl
-no_claim (answer.Accepted accepted) fails = refl
-no_claim (answer.Rejected reason) fails = refl
-no_claim (answer.Trapped trap) fails = refl
-no_claim (answer.StepLimit limit) fails = refl
+no_stated_claim : (found : Answer) → (status_of found ≡ Done → ⊥) → stated_claim found ≡ None
+no_stated_claim answer.Words fails = refl
+no_stated_claim answer.ElfTooLong fails = refl
+no_stated_claim (answer.ElfRefused refusal) fails = refl
+no_stated_claim answer.HintLimit fails = refl
+no_stated_claim (answer.Exit code public_bytes steps) fails = refl
+no_stated_claim (answer.Listing rows) fails = refl
+no_stated_claim (answer.Proved claim) fails = absurd (fails refl)
+no_stated_claim (answer.Sampled number claim) fails = absurd (fails refl)
+no_stated_claim answer.SegmentLimit fails = refl
+no_stated_claim (answer.Accepted accepted) fails = refl
+no_stated_claim (answer.Rejected reason) fails = refl
+no_stated_claim (answer.Trapped trap) fails = refl
+no_stated_claim (answer.StepLimit limit) fails = refl
 
 pub nothing_is_output : (s t : HostState) → WritesNothing s t → WritesOutput s t × KeepsOutput s t
 nothing_is_output s t w = (
@@ -61,13 +61,13 @@ module _ (IsImage : Loaded → Type 0) (hints : List ℕ) (per_segment : ℕ) wh
   -- where nothing was written and no success is answered
   pub nothing_left : (s t : HostState) (halt : Halt) → Fails halt → WritesNothing s t → WritesOutput s t × LeavesTables IsImage hints per_segment s t halt
   nothing_left s t (Found found) fails w =
-      let none : claim_of found ≡ None = no_claim found fails in
+      let none : stated_claim found ≡ None = no_stated_claim found fails in
       ((nothing_is_output s t w).0, rw none ((nothing_is_output s t w).1))
   nothing_left s t (Host error) fails w = ((nothing_is_output s t w).0, inl (nothing_is_output s t w).1)
 
   -- what was left is left where the output and the files stay
   pub left_after : (s t u : HostState) (found : Answer) → u.output ≡ t.output → u.content ≡ t.content → LeavesTables IsImage hints per_segment s t (Found found) → LeavesTables IsImage hints per_segment s u (Found found)
-  left_after s t u found output content left = by_claim (claim_of found) left
+  left_after s t u found output content left = by_claim (stated_claim found) left
     where
       by_claim : (claim : Option Proved) → Left s t claim → Left s u claim
       by_claim None kept = record { output = output ∙ kept.output; content = content ∙ kept.content }
@@ -83,7 +83,7 @@ module _ (IsImage : Loaded → Type 0) (hints : List ℕ) (per_segment : ℕ) wh
 
   -- and where saying it fails, it may have been written
   pub left_unsaid : (s t u : HostState) (found : Answer) (error : HostError) → u.output ≡ t.output → u.content ≡ t.content → LeavesTables IsImage hints per_segment s t (Found found) → LeavesTables IsImage hints per_segment s u (Host error)
-  left_unsaid s t u found error output content left = by_claim (claim_of found) left
+  left_unsaid s t u found error output content left = by_claim (stated_claim found) left
     where
       by_claim : (claim : Option Proved) → Left s t claim → KeepsOutput s u ⊎ MayWriteTables IsImage hints per_segment
       by_claim None kept = inl (record { output = output ∙ kept.output; content = content ∙ kept.content })

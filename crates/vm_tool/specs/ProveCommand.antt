@@ -64,13 +64,13 @@ pub record MayWriteTables (IsImage : Loaded → Type 0) (hints : List ℕ) (per_
   pub so : EndsSo loaded hints per_segment claim
 
 -- the claim of a file that was written
-abbrev pub claim_of : Answer → Option Proved
-claim_of (answer.Proved claim) = Some claim
-claim_of (answer.Sampled number claim) = Some claim
-claim_of found = None
+abbrev pub stated_claim : Answer → Option Proved
+stated_claim (answer.Proved claim) = Some claim
+stated_claim (answer.Sampled number claim) = Some claim
+stated_claim found = None
 
 -- What a command that proves a run leaves of the output: the whole file, where it is answered so; with other answers what
 -- was there; where the host failed or memory was refused, maybe some first part of the file.
 abbrev pub LeavesTables : (Loaded → Type 0) → List ℕ → ℕ → HostState → HostState → Halt → Type 0
-LeavesTables IsImage hints per_segment old new (Found found) = MatchOption (claim_of found) (KeepsOutput old new) (λ claim. WritesTables IsImage hints per_segment claim new)
+LeavesTables IsImage hints per_segment old new (Found found) = MatchOption (stated_claim found) (KeepsOutput old new) (λ claim. WritesTables IsImage hints per_segment claim new)
 LeavesTables IsImage hints per_segment old new (Host error) = KeepsOutput old new ⊎ MayWriteTables IsImage hints per_segment
