@@ -1,2 +1,3 @@
 pub mod Opcodes
 pub mod FullLines
+pub mod Sizes

@@ -11,6 +11,7 @@ mod elf;
 #[cfg(test)]
 mod elf_tests;
 pub mod laws;
+pub mod programs;
 mod sample;
 #[cfg(test)]
 mod tests;
