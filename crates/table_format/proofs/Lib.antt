@@ -6,6 +6,7 @@ pub mod Draws
 pub mod Drawn
 pub mod Advancing
 pub mod Putting
+pub mod Spelled
 pub mod Closing
 pub mod Following
 pub mod FollowingFile

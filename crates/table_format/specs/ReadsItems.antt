@@ -1,5 +1,6 @@
 -- What the calls of a reader do.
 use Rattle.std.specs.Prelude.{◌≡◌, ℕ, Bool, [], Option, Some, None, Result, Ok, Err}
+use Rattle.std.specs.Result.{result_err}
 use Rattle.vm_host.specs.State.{HostState}
 use Rattle.readings.specs.Readings.{Reading}
 use Rattle.readings.specs.declared.Stop.{Stop}
@@ -31,19 +32,15 @@ pub record StepsBy (r : Reading Reason Step) (a b : TableReader) (s t : HostStat
   pub form : form_of b ≡ form_of a
   pub error : b.error ≡ a.error
 
-abbrev pub error_of : {V : Type 0} → Result V (Stop Reason) → Option (Stop Reason)
-error_of (Ok v) = None
-error_of (Err e) = Some e
-
 -- what `next` does
 pub data Advances (a b : TableReader) (s t : HostState) (result : Result Item (Stop Reason)) : Type 0 where
   -- it has answered an error before, which it answers again
   again : (e : Stop Reason) → a.error ≡ Some e → result ≡ Err e → b ≡ a → t ≡ s → Advances a b s t result
   -- the item that comes next was read, or the reading's reason found; after the End nothing was read
-  first : a.error ≡ None → ReadsBy (item_at (form_of a) (spot_of a)) (λ v it. v ≡ (it, spot_of b)) a.stream b.stream s t result → form_of b ≡ form_of a → b.error ≡ error_of result
+  first : a.error ≡ None → ReadsBy (item_at (form_of a) (spot_of a)) (λ v it. v ≡ (it, spot_of b)) a.stream b.stream s t result → form_of b ≡ form_of a → b.error ≡ result_err result
       → (a.stage ≡ stage.Done → (b ≡ a) × (t ≡ s)) → Advances a b s t result
 
 -- what `at_end` does
 pub data TellsEndOnce (a b : TableReader) (s t : HostState) (result : Result Bool (Stop Reason)) : Type 0 where
   again : (e : Stop Reason) → a.error ≡ Some e → result ≡ Err e → b ≡ a → t ≡ s → TellsEndOnce a b s t result
-  first : a.error ≡ None → TellsEnd a.stream b.stream s t result → form_of b ≡ form_of a → spot_of b ≡ spot_of a → b.error ≡ error_of result → TellsEndOnce a b s t result
+  first : a.error ≡ None → TellsEnd a.stream b.stream s t result → form_of b ≡ form_of a → spot_of b ≡ spot_of a → b.error ≡ result_err result → TellsEndOnce a b s t result

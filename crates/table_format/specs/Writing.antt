@@ -1,6 +1,7 @@
 -- What writing does to a host's output.
 use lib.Count.{count_leading_zeros}
 use Rattle.std.specs.Prelude.{◌≡◌, ◌⊎◌, ℕ, ◌-◌, ◌^◌, ◌<◌, Bool, true, false, List, [], ◌++◌, length, Option, Some, None, Result, Ok, Err, IfOk, IfSome, OnOk, OnErr}
+use Rattle.std.specs.Result.{result_err}
 use Rattle.vm_host.specs.declared.HostError.{HostError}
 use Rattle.vm_host.specs.declared.Place.TheVariants.{Out}
 use Rattle.vm_host.specs.State.{HostState, then_more}
@@ -37,15 +38,11 @@ pub record Wrote {T : Type 0} (text : List ℕ) (s t : HostState) (result : Resu
   pub whole : OnOk result (rest ≡ [])
   pub frame : t ≡ record s { faults = t.faults; output = t.output }
 
-abbrev pub error_in : {T : Type 0} → Result T HostError → Option HostError
-error_in (Ok v) = None
-error_in (Err e) = Some e
-
 -- what a call does that writes this text, and then leaves the output open or not, and the writer finished or not
 pub data Appends (text : List ℕ) (creating ends : Bool) (a b : TableWriter) (s t : HostState) (result : Result (Unit {0}) HostError) : Type 0 where
   -- it has answered an error before, which it answers again
   again : (e : HostError) → a.error ≡ Some e → result ≡ Err e → b ≡ a → t ≡ s → Appends text creating ends a b s t result
-  first : a.error ≡ None → Wrote text s t result → OnOk result (t.output.creating ≡ creating) → b.version ≡ a.version → OnOk result (b.finished ≡ ends) → OnErr result (b.finished ≡ a.finished) → b.error ≡ error_in result
+  first : a.error ≡ None → Wrote text s t result → OnOk result (t.output.creating ≡ creating) → b.version ≡ a.version → OnOk result (b.finished ≡ ends) → OnErr result (b.finished ≡ a.finished) → b.error ≡ result_err result
       → Appends text creating ends a b s t result
 
 -- An output was started, and has the head of this version. Refused, it has what stood there, or some first part of the head.

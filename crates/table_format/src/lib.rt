@@ -1,6 +1,7 @@
 //! The file of a run's tables: its one spelling, a reader and a writer over a host.
 #![tactic(auto)]
 
+mod error;
 mod head;
 pub mod item;
 pub mod laws;

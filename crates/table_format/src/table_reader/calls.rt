@@ -2,7 +2,7 @@
 ghost use Rattle.std.specs.Prelude.{◌≡◌, ◌+◌, ◌≤◌, ◌<◌, ◌^◌, [], length, true, IfOk, None, List, slice_index};
 ghost use Rattle.vm_host.specs.declared.Slot.TheVariants.{Second};
 ghost use Rattle.table_format.specs.Reader.{Fits, mark_step, first_step, segment_step, height_step, row_step, sibling_step, siblings_step, page_step, behind_number, entry_step, constants_step, range_step, xor_step, program_step, entries_step, claim_step, ending_step, item_at};
-ghost use Rattle.table_format.specs.ReadsItems.{form_of, spot_of, IsNew, error_of, StepsBy, Advances, TellsEndOnce};
+ghost use Rattle.table_format.specs.ReadsItems.{form_of, spot_of, IsNew, StepsBy, Advances, TellsEndOnce};
 ghost use Rattle.table_format.specs.declared.stage.Stage.{Stage};
 ghost use Rattle.table_format.specs.declared.stage.Stage.TheVariants.{Head, Marker, Segment, Done};
 
@@ -11,6 +11,7 @@ use super::stages::{
     siblings_left,
 };
 use super::{Shape, TableReader};
+use crate::error::error_of;
 use crate::item::{Bounds, Item};
 use crate::stage::Stage;
 use crate::{Reason, Stream};
@@ -50,15 +51,6 @@ fn number_at(numbers: &[u32], index: u32) -> u32
     ensures { result ≡ slice_index numbers.now index }
 {
     numbers[index as usize]
-}
-
-fn error_in<T>(of: &Result<T, Stop<Reason>>) -> Option<Stop<Reason>>
-    ensures { result ≡ error_of of.now }
-{
-    match of {
-        Ok(_) => None,
-        Err(error) => Some(*error),
-    }
 }
 
 impl TableReader {
@@ -113,7 +105,7 @@ impl TableReader {
             return Ok(Item::End);
         }
         let result = self.item(host);
-        self.error = error_in(&result);
+        self.error = error_of(&result);
         result
     }
 
@@ -127,7 +119,7 @@ impl TableReader {
             return Err(error);
         }
         let result = self.stream.at_end(host);
-        self.error = error_in(&result);
+        self.error = error_of(&result);
         result
     }
 

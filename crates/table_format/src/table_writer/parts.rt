@@ -7,6 +7,7 @@ ghost use Rattle.table_format.specs.Writing.{Puts, AreCountable, bounds_text, di
 
 use super::put::{put, put_byte, put_digests, put_flag, put_number, put_numbers, put_row};
 use crate::item::{Claim, Connector};
+use byteorder::{ByteOrder, LittleEndian};
 use vm_host::{Host, HostError};
 use vm_trace::{CountEntry, CountList, Digest, Tables, Touched};
 
@@ -97,6 +98,15 @@ pub(super) fn put_tables<H: Host>(
     Ok(())
 }
 
+fn entry_bytes(entry: &CountEntry) -> [u8; 8]
+    ensures { result ≡ entry_text entry.now }
+{
+    let mut text = [0u8; 8];
+    LittleEndian::write_u32(&mut text, entry.place);
+    LittleEndian::write_u32(&mut text[4..], entry.count);
+    text
+}
+
 fn put_entry<H: Host>(
     host: &mut H,
     waiting: &mut Vec<u8>,
@@ -105,8 +115,8 @@ fn put_entry<H: Host>(
     requires open { (H.state host.old).output.creating ≡ true }
     ensures { Puts (entry_text entry.now) waiting.old.items waiting.new.items (H.state host.old) (H.state host.new) result }
 {
-    put_number(host, waiting, entry.place)?;
-    put_number(host, waiting, entry.count)
+    let text = entry_bytes(entry);
+    put(host, waiting, &text)
 }
 
 fn put_each_entry<H: Host>(

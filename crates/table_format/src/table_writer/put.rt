@@ -1,5 +1,5 @@
 //! Bytes that are written in large pieces.
-ghost use Rattle.std.specs.Prelude.{◌≡◌, ◌<◌, ◌^◌, [], true, length, OnOk};
+ghost use Rattle.std.specs.Prelude.{◌≡◌, ◌*◌, [], true, length, OnOk};
 ghost use Rattle.std.specs.List.{flat_map};
 ghost use Rattle.table_format.specs.Texts.{number_text, byte_text, flag_text, raw_text};
 ghost use Rattle.table_format.specs.Writing.{Puts};
@@ -96,6 +96,16 @@ pub(super) fn put_flag<H: Host>(
     put(host, waiting, &text)
 }
 
+// Spells the values of a row, where the buffer has four bytes for each.
+fn spell_row(row: &[Fe], text: &mut [u8])
+    requires { length text.old ≡ 4 * length row.now }
+    ensures { text.new ≡ flat_map number_text row.now }
+{
+    'values: for place in 0..row.len() {
+        LittleEndian::write_u32(&mut text[4 * place..], row[place].value());
+    }
+}
+
 pub(super) fn put_row<H: Host>(
     host: &mut H,
     waiting: &mut Vec<u8>,
@@ -104,10 +114,20 @@ pub(super) fn put_row<H: Host>(
     requires open { (H.state host.old).output.creating ≡ true }
     ensures { Puts (flat_map number_text row.now) waiting.old.items waiting.new.items (H.state host.old) (H.state host.new) result }
 {
-    'values: for value in row {
-        waiting.extend_from_slice(&number_bytes(value.value()))?;
-    }
+    let start = waiting.len();
+    waiting.resize(start + 4 * row.len(), 0)?;
+    spell_row(row, &mut waiting[start..]);
     settle(host, waiting)
+}
+
+// Spells numbers, where the buffer has four bytes for each.
+fn spell_numbers(numbers: &[u32], text: &mut [u8])
+    requires { length text.old ≡ 4 * length numbers.now }
+    ensures { text.new ≡ flat_map number_text numbers.now }
+{
+    'values: for place in 0..numbers.len() {
+        LittleEndian::write_u32(&mut text[4 * place..], numbers[place]);
+    }
 }
 
 pub(super) fn put_numbers<H: Host>(
@@ -118,9 +138,9 @@ pub(super) fn put_numbers<H: Host>(
     requires open { (H.state host.old).output.creating ≡ true }
     ensures { Puts (flat_map number_text numbers.now) waiting.old.items waiting.new.items (H.state host.old) (H.state host.new) result }
 {
-    'values: for number in numbers {
-        waiting.extend_from_slice(&number_bytes(*number))?;
-    }
+    let start = waiting.len();
+    waiting.resize(start + 4 * numbers.len(), 0)?;
+    spell_numbers(numbers, &mut waiting[start..]);
     settle(host, waiting)
 }
 

@@ -2,13 +2,14 @@
 ghost use Rattle.std.specs.Prelude.{◌≡◌, ◌<◌, ◌^◌, [], true, false, None, OnOk, length};
 ghost use Rattle.vm_trace.specs.File.{Segment};
 ghost use Rattle.table_format.specs.Texts.{head_text, piece_text};
-ghost use Rattle.table_format.specs.Writing.{Puts, Wrote, Appends, Begins, AreCountable, IsSegmentOf, error_in, made_text, end_text};
+ghost use Rattle.table_format.specs.Writing.{Puts, Wrote, Appends, Begins, AreCountable, IsSegmentOf, made_text, end_text};
 
 use super::TableWriter;
 use super::parts::{
     put_bounds, put_codes, put_counts, put_end, put_pages, put_siblings, put_tables,
 };
 use super::put::{PIECE, flush, put, put_flag, put_number};
+use crate::error::error_of;
 use crate::item::{Claim, Connector};
 use crate::take::MAGIC;
 use std::alloc::Global;
@@ -94,15 +95,6 @@ fn write_end<H: Host>(host: &mut H, waiting: &mut Vec<u8>, claim: &Claim) -> Res
     host.finish()
 }
 
-fn error_in(of: &Result<(), HostError>) -> Option<HostError>
-    ensures { result ≡ error_in of.now }
-{
-    match of {
-        Ok(()) => None,
-        Err(error) => Some(*error),
-    }
-}
-
 impl TableWriter {
     /// Starts the named output with the head of version 1.
     pub fn begin<H: Host>(alloc: Global, host: &mut H, name: &str) -> Result<TableWriter, HostError>
@@ -163,7 +155,7 @@ impl TableWriter {
             pages,
             siblings,
         );
-        self.error = error_in(&result);
+        self.error = error_of(&result);
         result
     }
 
@@ -202,7 +194,7 @@ impl TableWriter {
         self.waiting.clear();
         let result = write_end(host, &mut self.waiting, claim);
         self.finished = result.is_ok();
-        self.error = error_in(&result);
+        self.error = error_of(&result);
         result
     }
 }
