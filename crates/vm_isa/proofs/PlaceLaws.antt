@@ -1,16 +1,15 @@
 -- The places of a SHA block.
-use Rattle.std.proofs.Common.{◌≡◌, ℕ, ◌+◌, ◌-◌, ◌*◌, ◌<◌, ◌≤◌, suc, false, nat_eq, ◌++◌, length, map, slice_get, Some, None, refl, ap, ◌∙◌, arith}
+use Rattle.std.proofs.Common.{◌≡◌, ℕ, ◌+◌, ◌-◌, ◌*◌, ◌<◌, ◌≤◌, suc, nat_eq, ◌++◌, length, map, slice_get, Some, None, refl, ap, ◌∙◌, arith}
 use Rattle.std.specs.List.{range_with_len}
 use Rattle.std.proofs.Math.ListN.{get_or-append, length-append}
-use Rattle.std.proofs.lemmas.Bool.Decides.{nat_tests}
 use Rattle.std.proofs.lemmas.List.{get_or-append_right}
 use Rattle.std.proofs.lemmas.Option.{slice_get-get_or, slice_get_past}
 use Rattle.std.proofs.lemmas.List.FromFn.{get_or-map-range_with_len, length-map-range_with_len}
 use Rattle.vm_word.specs.Arithmetic.{word_sum}
 use Rattle.vm_isa.specs.declared.instr.VmInstr.{VmInstr}
-use Rattle.vm_isa.specs.declared.meaning.NextAccess.TheVariants.{NoMeaning, At}
+use Rattle.vm_isa.specs.declared.meaning.NextAccess.TheVariants.{At}
 use Rattle.vm_isa.specs.Spaces.{MEMORY}
-use Rattle.vm_isa.specs.Means.{in_places, memory, sha_places}
+use Rattle.vm_isa.specs.Means.{at_place, in_places, memory, sha_places}
 
 get-left : {X : Type 0} (f g : ℕ → X) (n m j : ℕ) → j < n
     → slice_get (map f (range_with_len 0 n) ++ map g (range_with_len 0 m)) j ≡ Some (f j)
@@ -60,9 +59,8 @@ in_sha-state i b c k low high =
     ap (λ n. slice_get (sha_places i b c) n) at ∙ sha-state i b c (k - 2) (omega arith) (omega arith) in
     rw (is, off, back) refl
 
-pub in_sha-past : (i : VmInstr) (b c : ℕ) (k : ℕ) → 26 < k → in_places (sha_places i b c) k ≡ NoMeaning
+pub in_sha-past : (i : VmInstr) (b c : ℕ) (k : ℕ) → 26 ≤ k → in_places (sha_places i b c) k ≡ at_place None (nat_eq k 26)
 in_sha-past i b c k high =
     let long : length (sha_places i b c) ≡ 26 = refl in
     let is : slice_get (sha_places i b c) k ≡ None = slice_get_past (sha_places i b c) k (omega arith) in
-    let other : nat_eq k 26 ≡ false = grind (arith, nat_tests) in
-    rw (is, other) refl
+    rw is refl

@@ -1,7 +1,7 @@
 //! One access to a block of four bytes.
 
 /// A block, its word before the access and its word after.
-#[derive(Clone, Copy, Debug, PartialEq, Eq)]
+#[derive(Clone, Copy, Debug, Default, PartialEq, Eq)]
 pub struct Access {
     /// One of `space`.
     pub space: u8,
@@ -11,7 +11,7 @@ pub struct Access {
 }
 
 /// An access at its time.
-#[derive(Clone, Copy, Debug, PartialEq, Eq)]
+#[derive(Clone, Copy, Debug, Default, PartialEq, Eq)]
 pub struct TimedAccess {
     pub access: Access,
     pub time: u32,

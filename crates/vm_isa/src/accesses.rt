@@ -3,16 +3,18 @@
 ghost use Rattle.std.specs.Prelude.{◌≡◌, ◌<◌, ◌↔◌, [], ◌∷◌, ◌++◌, length, slice_get, IsTrue, OnOk, OnErr};
 
 use crate::{OutOfMemory, TimedAccess};
+use smallvec::SmallVec;
 use std::alloc::Global;
 use std::marker::Model;
 
 /// How many accesses a step has at most.
 pub const MAX_ACCESSES: usize = 64;
 
-/// The accesses of one step in order of time, at most 64, seen as their list.
+/// The accesses of one step in order of time, at most 64, seen as their list. Three take no memory: of all steps only
+/// SHA's have more.
 #[derive(Debug, Drop)]
 pub struct AccessList {
-    items: Vec<TimedAccess>,
+    items: SmallVec<TimedAccess, 3>,
 }
 
 impl Model for AccessList {
@@ -31,7 +33,7 @@ impl AccessList {
         ensures { result ≡ [] }
     {
         AccessList {
-            items: Vec::new(alloc),
+            items: SmallVec::new(alloc),
         }
     }
 

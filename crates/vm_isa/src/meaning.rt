@@ -1,7 +1,8 @@
 //! What an instruction means, from the old words of its accesses.
 
-ghost use Rattle.std.specs.Prelude.{◌≡◌, ℕ, ◌<◌, List, length};
-ghost use Rattle.vm_isa.specs.Means.{Meaning, address, bars_first, imm_of, in_places, is_bad, is_high, is_refused as is_refused_of, jalr_target, means_of, memory, next_access_of, next_of, places_of, public, register, sha_places, word_at};
+ghost use Rattle.std.specs.Prelude.{◌≡◌, ℕ, ◌<◌, ◌≤◌, List, [], ◌∷◌, None, length, nat_eq};
+ghost use Rattle.vm_isa.specs.declared.meaning.NextAccess.TheVariants.{At};
+ghost use Rattle.vm_isa.specs.Means.{Meaning, address, at_place, bars_first, block_address, imm_of, in_places, is_bad, is_high, is_refused as is_refused_of, jalr_target, means_of, memory, next_access_of, next_of, places_by, places_of, public, register, sha_places, word_at};
 
 use crate::opcode::*;
 use crate::results::{is_taken, width};
@@ -86,6 +87,14 @@ pub fn address(instr: &VmInstr, first: u32) -> u32
     first.wrapping_add(immediate(instr))
 }
 
+// The block that has the byte at A.
+fn block_address(instr: &VmInstr, first: u32) -> u32
+    ensures { result ≡ block_address instr.now first }
+{
+    let byte = address(instr, first);
+    byte - byte % 4
+}
+
 fn jalr_target(instr: &VmInstr, first: u32) -> u32
     ensures { result ≡ jalr_target instr.now first }
 {
@@ -147,48 +156,37 @@ fn memory(slot: u32, pointer: u32) -> Place
     }
 }
 
-fn in_places(places: &[Place], number: usize) -> NextAccess
-    ensures { result ≡ in_places places.now number }
+fn at(place: Place) -> NextAccess
+    ensures { result ≡ At place.slot place.space place.pointer }
 {
-    match places.get(number) {
-        Some(place) => NextAccess::At {
-            slot: place.slot,
-            space: place.space,
-            pointer: place.pointer,
-        },
-        None if number == places.len() => NextAccess::Done,
-        None => NextAccess::NoMeaning,
+    NextAccess::At {
+        slot: place.slot,
+        space: place.space,
+        pointer: place.pointer,
     }
 }
 
-#[tactic(auto, unfolding(crate::specs::Means::places_by))]
-fn next_place(instr: &VmInstr, old: &[[u8; 4]]) -> NextAccess
-    ensures { result ≡ in_places (places_of instr.now old.now) (length old.now) }
+// What follows so many accesses of an instruction that has `count`, at most as many.
+fn past(count: usize, number: usize) -> NextAccess
+    requires { count ≤ number }
+    ensures { result ≡ at_place None (nat_eq number count) }
 {
-    let rd = instr.rd;
-    let base = register(0, instr.rs1);
-    let second = register(1, instr.rs2);
-    let sum = address(instr, word_at(old, 0));
-    let block = sum - sum % 4;
-    let number = old.len();
-    match instr.op {
-        ADD..=SRA | MUL..=REMU if instr.use_imm => in_places(&[base, register(2, rd)], number),
-        ADD..=SRA | MUL..=REMU => in_places(&[base, second, register(2, rd)], number),
-        LB..=LHU if instr.write => in_places(&[base, memory(1, block), register(2, rd)], number),
-        LB..=LHU => in_places(&[base, memory(1, block)], number),
-        SB..=SW => in_places(&[base, second, memory(2, block)], number),
-        BEQ..=BGEU => in_places(&[base, second], number),
-        JAL if instr.write => in_places(&[register(0, rd)], number),
-        LUI | AUIPC => in_places(&[register(0, rd)], number),
-        JALR if instr.write => in_places(&[base, register(1, rd)], number),
-        JALR => in_places(&[base], number),
-        HINT => in_places(&[register(0, rd), memory(1, sum)], number),
-        REVEAL => in_places(
-            &[register(0, rd), register(1, instr.rs1), public(2, sum)],
-            number,
-        ),
-        SHA => next_of_sha(instr, old),
-        _ => in_places(&[], number),
+    if number == count {
+        NextAccess::Done
+    } else {
+        NextAccess::NoMeaning
+    }
+}
+
+// What follows two accesses or more of an instruction that has three.
+fn third(first: Place, second: Place, third: Place, number: usize) -> NextAccess
+    requires { 2 ≤ number }
+    ensures { result ≡ in_places (first ∷ second ∷ third ∷ []) number }
+{
+    if number == 2 {
+        at(third)
+    } else {
+        past(3, number)
     }
 }
 
@@ -202,19 +200,88 @@ fn public(slot: u32, pointer: u32) -> Place
     }
 }
 
-fn next_of_sha(instr: &VmInstr, old: &[[u8; 4]]) -> NextAccess
+// The first access.
+#[tactic(auto, unfolding(crate::specs::Means::places_by))]
+fn first_access(instr: &VmInstr) -> NextAccess
+    ensures { (b c : ℕ) → result ≡ in_places (places_by instr.now b c) 0 }
+{
+    match instr.op {
+        ADD..=BGEU | JALR | MUL..=REMU => at(register(0, instr.rs1)),
+        JAL if instr.write => at(register(0, instr.rd)),
+        LUI | AUIPC | HINT | REVEAL | SHA => at(register(0, instr.rd)),
+        _ => NextAccess::Done,
+    }
+}
+
+// What follows the first access, of this word.
+#[tactic(auto, unfolding(crate::specs::Means::places_by))]
+fn second_access(instr: &VmInstr, first: u32) -> NextAccess
+    ensures { (c : ℕ) → result ≡ in_places (places_by instr.now first c) 1 }
+{
+    match instr.op {
+        ADD..=SRA | MUL..=REMU if instr.use_imm => at(register(2, instr.rd)),
+        ADD..=SRA | MUL..=REMU | SB..=BGEU => at(register(1, instr.rs2)),
+        LB..=LHU => at(memory(1, block_address(instr, first))),
+        JAL if instr.write => NextAccess::Done,
+        LUI | AUIPC => NextAccess::Done,
+        JALR if instr.write => at(register(1, instr.rd)),
+        JALR => NextAccess::Done,
+        HINT => at(memory(1, address(instr, first))),
+        REVEAL | SHA => at(register(1, instr.rs1)),
+        _ => NextAccess::NoMeaning,
+    }
+}
+
+// What follows two accesses or more.
+#[tactic(auto, unfolding(crate::specs::Means::places_by))]
+fn later_access(instr: &VmInstr, old: &[[u8; 4]]) -> NextAccess
+    requires { 2 ≤ length old.now }
+    ensures { result ≡ in_places (places_of instr.now old.now) (length old.now) }
+{
+    let number = old.len();
+    let base = register(0, instr.rs1);
+    let second = register(1, instr.rs2);
+    let last = register(2, instr.rd);
+    match instr.op {
+        ADD..=SRA | MUL..=REMU if instr.use_imm => past(2, number),
+        ADD..=SRA | MUL..=REMU => third(base, second, last, number),
+        LB..=LHU if instr.write => {
+            let block = block_address(instr, word_at(old, 0));
+            third(base, memory(1, block), last, number)
+        }
+        SB..=SW => {
+            let block = block_address(instr, word_at(old, 0));
+            third(base, second, memory(2, block), number)
+        }
+        LB..=LHU | BEQ..=BGEU | HINT => past(2, number),
+        JALR if instr.write => past(2, number),
+        REVEAL => {
+            let word = public(2, address(instr, word_at(old, 0)));
+            third(register(0, instr.rd), register(1, instr.rs1), word, number)
+        }
+        SHA => later_of_sha(instr, old),
+        _ => NextAccess::NoMeaning,
+    }
+}
+
+fn next_place(instr: &VmInstr, old: &[[u8; 4]]) -> NextAccess
+    ensures { result ≡ in_places (places_of instr.now old.now) (length old.now) }
+{
+    match old.len() {
+        0 => first_access(instr),
+        1 => second_access(instr, word_at(old, 0)),
+        _ => later_access(instr, old),
+    }
+}
+
+// What follows two accesses or more of a SHA block.
+fn later_of_sha(instr: &VmInstr, old: &[[u8; 4]]) -> NextAccess
+    requires { 2 ≤ length old.now }
     ensures { result ≡ in_places (sha_places instr.now (word_at old.now 0) (word_at old.now 1)) (length old.now) }
 {
     let number = old.len();
-    if number < 2 {
-        return in_places(&[register(0, instr.rd), register(1, instr.rs1)], number);
-    }
     if number >= 26 {
-        return if number == 26 {
-            NextAccess::Done
-        } else {
-            NextAccess::NoMeaning
-        };
+        return past(26, number);
     }
     let slot = number as u32;
     let pointer = if slot < 18 {

@@ -3,7 +3,7 @@
 ghost use Rattle.std.specs.Prelude.{◌≡◌, ◌≤◌, ◌<◌, ◌↔◌, length, slice_index, slice_index_or, slice_get, map, List, [], Some, take, drop, IsTrue};
 ghost use Rattle.std.specs.List.{concat};
 ghost use Rattle.vm_word.specs.Word.{word_of_limbs};
-ghost use Rattle.vm_isa.specs.Means.{HasNew, Meaning, compressed as compressed_of, means_of, new_at, next_access_of, operand, slot_at};
+ghost use Rattle.vm_isa.specs.Means.{HasNew, Meaning, compressed as compressed_of, in_block, means_of, new_at, next_access_of, operand, slot_at, word_at};
 
 use crate::VmInstr;
 use crate::meaning::{NextAccess, address, immediate, word_at};
@@ -50,6 +50,13 @@ fn operand(instr: &VmInstr, second: u32) -> u32
     }
 }
 
+// The place of the byte at A in its block.
+fn in_block(instr: &VmInstr, old: &[[u8; 4]]) -> usize
+    ensures { result ≡ in_block instr.now (word_at old.now 0) }
+{
+    (address(instr, word_at(old, 0)) % 4) as usize
+}
+
 #[tactic(auto, using(crate::proofs::NewLaws::second_moved, crate::proofs::NewLaws::second_revealed, crate::proofs::NewLaws::in_one_block, crate::proofs::NewLaws::sha_known), unfolding(crate::specs::Means::new_at))]
 fn new_at(instr: &VmInstr, old: &[[u8; 4]], given: [u8; 4], slot: u32, block: [u8; 4]) -> [u8; 4]
     requires whole { next_access_of instr.now old.now ≡ NextAccess.Done }
@@ -57,14 +64,14 @@ fn new_at(instr: &VmInstr, old: &[[u8; 4]], given: [u8; 4], slot: u32, block: [u
     ensures { result ≡ new_at instr.now old.now given slot block }
 {
     let op = instr.op;
-    let first = word_at(old, 0);
-    let in_block = (address(instr, first) % 4) as usize;
     match op {
-        ADD..=SRA | MUL..=REMU if slot == 2 => {
-            limbs(result(op, first, operand(instr, word_at(old, 1))))
-        }
-        LB..=LHU if slot == 2 => limbs(loaded(op, old[1], in_block)),
-        SB..=SW if slot == 2 => stored(op, block, in_block, old[1]),
+        ADD..=SRA | MUL..=REMU if slot == 2 => limbs(result(
+            op,
+            word_at(old, 0),
+            operand(instr, word_at(old, 1)),
+        )),
+        LB..=LHU if slot == 2 => limbs(loaded(op, old[1], in_block(instr, old))),
+        SB..=SW if slot == 2 => stored(op, block, in_block(instr, old), old[1]),
         JAL if slot == 0 => limbs(instr.pc.wrapping_add(4)),
         LUI if slot == 0 => instr.imm,
         JALR if slot == 1 => limbs(instr.pc.wrapping_add(4)),
