@@ -2,7 +2,7 @@
 use Rattle.std.proofs.Common.{◌≡◌, ℕ, ◌+◌, ◌*◌, ◌<◌, ◌≤◌, ◌^◌, true, false, List, [], ◌∷◌, ◌++◌, length, refl, sym, ap, subst, ◌∙◌, arith}
 use Rattle.std.specs.Prelude.{IsPermutation, flat_map, sum_by}
 use Rattle.std.specs.List.{AllByRecursion}
-use Rattle.std.proofs.lemmas.List.Sorted.{length_permutation, sum_by-IsPermutation}
+use Rattle.std.proofs.lemmas.List.Sorted.{length_permutation, sum_by-IsPermutation, IsPermutation-sym}
 use Rattle.std.proofs.lemmas.List.Sums.{sum_by-cons}
 use Rattle.elf_image.specs.Loaded.{Loaded}
 use Rattle.vm_isa.specs.declared.instr.VmInstr.{VmInstr}
@@ -208,5 +208,28 @@ accepts_so x image f ts h a =
       };
     }
 
+-- ---- and back
+
+same_rows_back : (ts us : List (List (List ℕ))) → HaveSameRows ts us → HaveSameRows us ts
+same_rows_back [] [] h = tt
+same_rows_back [] (u ∷ us) h = absurd h
+same_rows_back (t ∷ ts) [] h = absurd h
+same_rows_back (t ∷ ts) (u ∷ us) h = (IsPermutation-sym t u h.0, same_rows_back ts us h.1)
+
+reordered_back : (s t : Segment) → IsReordered s t → IsReordered t s
+reordered_back s t h = record { rows = same_rows_back s.tables t.tables h.rows; rest = sym (ap (λ (q : Segment). record q { tables = s.tables }) h.rest) }
+
+all_back : (ss ts : List Segment) → AreReordered ss ts → AreReordered ts ss
+all_back [] [] h = tt
+all_back [] (t ∷ ts) h = absurd h
+all_back (s ∷ ss) [] h = absurd h
+all_back (s ∷ ss) (t ∷ ts) h = (reordered_back s t h.0, all_back ss ts h.1)
+
+file_back : (f g : File) → IsReorderedFile f g → IsReorderedFile g f
+file_back f g h = record { segments = all_back f.segments g.segments h.segments; rest = sym (ap (λ (q : File). record q { segments = f.segments }) h.rest) }
+
+accepts_reordered : (x : System) (image : Loaded) (f g : File) → IsReorderedFile f g → Accepts x image f → Accepts x image g
+accepts_reordered x image f g h a = subst (Accepts x image) (sym h.rest) (accepts_so x image f g.segments h.segments a)
+
 pub reordered_files_are_accepted : ReorderedFilesAreAccepted
-reordered_files_are_accepted x image f g h a = subst (Accepts x image) (sym h.rest) (accepts_so x image f g.segments h.segments a)
+reordered_files_are_accepted x image f g h = (accepts_reordered x image f g h, accepts_reordered x image g f (file_back f g h))

@@ -1,5 +1,5 @@
 -- Files whose tables have the same rows in another order.
-use Rattle.std.specs.Prelude.{◌≡◌, ℕ, List, [], ◌∷◌, IsPermutation}
+use Rattle.std.specs.Prelude.{◌≡◌, ◌↔◌, ℕ, List, [], ◌∷◌, IsPermutation}
 use Rattle.elf_image.specs.Loaded.{Loaded}
 use Rattle.vm_trace.specs.File.{Segment, File}
 use Rattle.air_core.specs.System.{System}
@@ -25,6 +25,6 @@ pub record IsReorderedFile (f g : File) : Type 0 where
   pub segments : AreReordered f.segments g.segments
   pub rest : g ≡ record f { segments = g.segments }
 
--- A file is accepted where one of the same rows in another order is.
+-- A file is accepted exactly where one of the same rows in another order is.
 abbrev pub ReorderedFilesAreAccepted : Type 0
-ReorderedFilesAreAccepted = (x : System) (image : Loaded) (f g : File) → IsReorderedFile f g → Accepts x image f → Accepts x image g
+ReorderedFilesAreAccepted = (x : System) (image : Loaded) (f g : File) → IsReorderedFile f g → Accepts x image f ↔ Accepts x image g

@@ -19,7 +19,7 @@ pub fn verdict_is_one()
     ensures { VerdictIsOne }
 {}
 
-/// Rows of a table in another order leave a file accepted.
+/// A file is accepted exactly where it is with the rows of its tables in another order.
 pub fn reordered_files_are_accepted()
     ensures { ReorderedFilesAreAccepted }
 {}
