@@ -6,8 +6,8 @@ use Rattle.vm_host.specs.State.{HostState, Input}
 use Rattle.vm_host.specs.Memory.{by_slot}
 
 -- what an open file tells, and nothing where none stands open
-abbrev pub told_by : {F : Type 0} → (F → Option (List ℕ)) → Option F → Option (List ℕ)
-told_by tells file = option_and_then tells file
+abbrev pub told_of_open : {F : Type 0} → (F → Option (List ℕ)) → Option F → Option (List ℕ)
+told_of_open tells file = option_and_then tells file
 
 -- an input that is open where there is a file
 abbrev pub untold_input : {F : Type 0} → Option F → Input
