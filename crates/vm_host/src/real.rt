@@ -2,7 +2,9 @@
 ghost use Rattle.std.specs.Prelude.{◌≡◌, ◌<◌, ◌≤◌, ◌^◌, length, OnOk, OnErr, IfErr, IfOk, IsErrOf, is_some, true, None};
 ghost use Rattle.std.specs.Io.{ReadsAtMost, WritesAtMost};
 ghost use Rattle.std.specs.Io.KnownBytes.{Appends, ReadConsumes, WriteAppends};
-ghost use Rattle.vm_host.specs.Real.{untold_state};
+ghost use Rattle.vm_host.specs.Calls.{Reads, Writes};
+ghost use Rattle.vm_host.specs.Memory.{by_slot};
+ghost use Rattle.vm_host.specs.Real.{told_of_open, untold_state};
 ghost use Rattle.vm_host.specs.lemmas.HostBytes.{untold_bytes};
 
 use crate::faults::Faults;
@@ -46,6 +48,7 @@ fn read_open<F: Read>(file: &mut Option<F>, into: &mut [u8]) -> io::Result<usize
     requires { is_some file.old ≡ true }
     ensures bound { ReadsAtMost result into.new }
     ensures same { is_some file.new ≡ is_some file.old }
+    ensures bytes { ReadConsumes (told_of_open F.remaining file.old) (told_of_open F.remaining file.new) result into.new }
 {
     match file {
         Some(file) => read_some(file, into),
@@ -126,7 +129,12 @@ impl<'a, R: Files + Print> Host for RealHost<'a, R> {
         }
     }
 
-    fn read(&mut self, slot: Slot, into: &mut [u8]) -> Result<usize, HostError> {
+    /// Where the file that stands open tells what is left of it, that is what was read.
+    fn read(&mut self, slot: Slot, into: &mut [u8]) -> Result<usize, HostError>
+        requires { ((untold_state self.old.faults.count self.old.elf self.old.second self.old.out).input slot).is_open ≡ true }
+        ensures reads { Reads slot (untold_state self.old.faults.count self.old.elf self.old.second self.old.out) (untold_state self.new.faults.count self.new.elf self.new.second self.new.out) result into.new }
+        ensures bytes { ReadConsumes (told_of_open R.File.remaining (by_slot self.old.elf self.old.second slot)) (told_of_open R.File.remaining (by_slot self.new.elf self.new.second slot)) result into.new }
+    {
         self.faults.refuse_at_last()?;
         let read = match slot {
             Slot::Elf => read_open(&mut self.elf, into),
@@ -150,7 +158,12 @@ impl<'a, R: Files + Print> Host for RealHost<'a, R> {
         }
     }
 
-    fn write(&mut self, piece: &[u8]) -> Result<(), HostError> {
+    /// Where the output tells what it holds, the piece was appended to that.
+    fn write(&mut self, piece: &[u8]) -> Result<(), HostError>
+        requires { is_some self.old.out ≡ true }
+        ensures writes { Writes piece.now (untold_state self.old.faults.count self.old.elf self.old.second self.old.out) (untold_state self.new.faults.count self.new.elf self.new.second self.new.out) result }
+        ensures bytes { OnOk result (Appends (told_of_open R.File.contents self.old.out) (told_of_open R.File.contents self.new.out) piece.now) }
+    {
         self.faults.refuse_at_last()?;
         let Some(file) = &mut self.out else {
             unreachable!()
