@@ -1,7 +1,1 @@
-pub mod Numbers
-pub mod Filling
-pub mod Selected
-pub mod Limb
-pub mod Sound
-pub mod Complete
 pub mod ShiftLaws

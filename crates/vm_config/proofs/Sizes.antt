@@ -15,7 +15,8 @@ use Rattle.gadget_time.specs.Told.{time_constraint, touch_constraint, touch_line
 use Rattle.adapter_regs.specs.Regs.{regs_of, first_touch, second_touch, third_touch, immediate_constraints, regs_numbers}
 use Rattle.gadget_limbs.specs.Less.{marks_sum, equal_above, marked_differs, top_constraint, differences, less_constraints, less_ranges}
 use Rattle.gadget_limbs.specs.Sign.{sign_constraints, sign_looked_up, negative_constraints, same_constraints}
-use Rattle.chip_shift.specs.Shift.{shift_columns, left_limb, right_limb, selected, shift_constraints_of, amount_part, shift_lookups_of}
+use Rattle.gadget_shift.specs.Shift.{shift_columns, amount_constraints, amount_part, shift_lookups, left_limb, right_limb, selected, left_constraints, right_constraints}
+use Rattle.chip_shift.specs.Shift.{shift_constraints_of, shift_lookups_of}
 use Rattle.adapter_mem.specs.Memory.{memory_numbers}
 use Rattle.adapter_mem.specs.Pointer.{pointer_constraints, low_half, high_half, half_out, part, pointer}
 use Rattle.chip_load.specs.Load.{load_limb}
@@ -80,7 +81,7 @@ unfolding bit gated_difference flag_constraints path_lines list_of marks_sum equ
 less_sized = record { constraints = λ row. refl; events = λ hi row. refl }
 
 pub shift_sized : Sized (regs_form shift_core) (size 59 25)
-unfolding bit gated_difference flag_constraints path_lines list_of sign_constraints sign_looked_up shift_columns left_limb right_limb selected shift_constraints_of amount_part shift_lookups_of time_constraint touch_constraint touch_lines columns_by form_constraints regs_of first_touch second_touch third_touch immediate_constraints regs_numbers
+unfolding bit gated_difference flag_constraints path_lines list_of sign_constraints sign_looked_up shift_columns amount_constraints amount_part shift_lookups left_limb right_limb selected left_constraints right_constraints shift_constraints_of shift_lookups_of time_constraint touch_constraint touch_lines columns_by form_constraints regs_of first_touch second_touch third_touch immediate_constraints regs_numbers
 shift_sized = record { constraints = λ row. refl; events = λ hi row. refl }
 
 pub load_sized : Sized (memory_form load_table) (size 21 18)
