@@ -19,7 +19,7 @@ const SEND: Side = Side::Send;
 
 const RECEIVE: Side = Side::Receive;
 
-const CASES: [Case; 11] = [
+const CASES: [Case; 13] = [
     Case {
         lines: &[],
         least: None,
@@ -54,6 +54,20 @@ const CASES: [Case; 11] = [
     Case {
         lines: &[(4, RECEIVE, &[], 9)],
         least: Some((4, &[], 0, 9)),
+    },
+    // A tuple that was even, and then sent once more.
+    Case {
+        lines: &[
+            (0, SEND, &[1], 5),
+            (0, RECEIVE, &[1], 5),
+            (0, SEND, &[1], 2),
+        ],
+        least: Some((0, &[1], 7, 5)),
+    },
+    // The first number goes before the length.
+    Case {
+        lines: &[(3, SEND, &[2], 1), (3, SEND, &[1, 9], 1)],
+        least: Some((3, &[1, 9], 1, 0)),
     },
     // One tuple on two buses.
     Case {
