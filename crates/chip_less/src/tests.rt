@@ -5,7 +5,7 @@ ghost use Rattle.vm_isa.specs.Opcodes.{is_from};
 
 use crate::{Less, LessAt};
 use adapter_regs::records::{Operation, step};
-use air_core::{Chip, Event, EventList, Extension, Single, bus};
+use air_core::{Chip, Event, EventList, Extension, Single, bus, element};
 use std::alloc::Global;
 use std::test::Fail;
 use vm_field::Fe;
@@ -105,6 +105,23 @@ fn a_sign_where_there_is_none(rt: HostRuntime) -> Result<(), Fail> {
     row[2] = Fe::ZERO;
     row[3] = Fe::ONE;
     assert_eq!(rt; refusal_of(rt.alloc(), &row)?, Refusal::Lookup(15));
+    Ok(())
+}
+
+/// x6 in all three places: its word is read, read again a time later, and written. The row says each time before, and
+/// with the time of the first access before the third it breaks.
+#[test]
+fn one_register(rt: HostRuntime) -> Result<(), Fail> {
+    let mut row = filled(rt.alloc(), 6, 0x8000_0001, 0x8000_0001, (false, 6))?;
+    row[6] = row[5];
+    for (column, number) in [(35, 70000), (36, 0), (37, 0), (38, 70001), (39, 0), (40, 0)] {
+        row[column] = element(number);
+    }
+    let registers = [row[4].value(), row[5].value(), row[6].value()];
+    assert_eq!(rt; registers, [6, 6, 6]);
+    assert_eq!(rt; refusal_of(rt.alloc(), &row)?, Refusal::Nothing);
+    row[38] = element(70000);
+    assert_eq!(rt; refusal_of(rt.alloc(), &row)?, Refusal::Constraint(26));
     Ok(())
 }
 
