@@ -201,6 +201,23 @@ fn equal_words(rt: HostRuntime) -> Result<(), Fail> {
     Ok(())
 }
 
+/// BEQ of x6 and x6: its word is read again a time later. With an earlier time before it breaks.
+#[test]
+fn one_register(rt: HostRuntime) -> Result<(), Fail> {
+    let word = 0x8000_0001;
+    let mut row = equal_row(rt.alloc(), opcode::BEQ, 4096, (word, word), 8)?;
+    row[5] = row[4];
+    for (column, number) in [(23, 70000), (24, 0), (25, 0)] {
+        row[column] = element(number);
+    }
+    assert_eq!(rt; [row[4].value(), row[5].value()], [6, 6]);
+    assert_eq!(rt; equal_said(rt.alloc(), &row)?, (Refusal::Nothing, 8));
+    row[23] = element(69999);
+    let found = equal_said(rt.alloc(), &row)?.0;
+    assert_eq!(rt; found, Refusal::Constraint(10));
+    Ok(())
+}
+
 #[test]
 fn as_extensions(rt: HostRuntime) -> Result<(), Fail> {
     let equal = Single::new(BranchEq::new());
