@@ -104,7 +104,7 @@ fn exchanged_parts(rt: HostRuntime) -> Result<(), Fail> {
     let rows = exchanged(alloc, &sums, 107, 267, 427)?;
     assert!(rt; rows != sums);
     accepts(&rt, &THREE_SUMS, &rows, 0)?;
-    // segments don't
+    // segments stand in the order of the run
     let seven = written(&rt, &PUBLIC_SEVEN, &[], 1)?;
     let end = seven.len().saturating_sub(866);
     let segments = exchanged(alloc, &seven, 12, 1335, end)?;
