@@ -24,7 +24,7 @@ use Rattle.vm_filler.proofs.FixedRows.{program_places, program_at}
 
 -- ---- records of rows
 
-same_itself : (xs : List ℕ) → pointwise nat_eq xs xs ≡ true
+pub same_itself : (xs : List ℕ) → pointwise nat_eq xs xs ≡ true
 same_itself [] = refl
 same_itself (x ∷ xs) = rw (eq-eqb x x refl) (same_itself xs)
 
