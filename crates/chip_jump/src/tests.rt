@@ -206,26 +206,38 @@ fn word_at(row: &[Fe], at: usize) -> u32
     u32::from_le_bytes(bytes)
 }
 
-/// JAL of x0 by 8, which writes nothing; and the last pc to the first, whose return address is 2^29. One column off by
-/// one breaks what a hand finds: the target breaks nothing, since the program row has it.
+/// JAL to the first pc, to 0x1008 and to the last one, 2^29 - 4, from each of them, with x5 and with x0, which writes
+/// nothing. From the last pc it is lawful, and the return address is 2^29. One column off by one breaks what a hand finds:
+/// the target breaks nothing, since the program row has it, nor does the time of a write that isn't.
 #[test]
 fn jumps(rt: HostRuntime) -> Result<(), Fail> {
-    let row = jal_row(rt.alloc(), opcode::JAL, 0x1000, false, 0, 0x1008)?;
-    assert_eq!(rt; jal_said(rt.alloc(), &row)?, (Refusal::Nothing, 0x1008));
-    let row = jal_row(rt.alloc(), opcode::JAL, (1 << 29) - 4, true, 0, 0)?;
-    assert_eq!(rt; jal_said(rt.alloc(), &row)?, (Refusal::Nothing, 0));
-    assert_eq!(rt; word_at(&row, 11), 1 << 29);
-    for (column, refusal) in [
-        (3, Refusal::Constraint(2)),
-        (11, Refusal::Constraint(3)),
-        (14, Refusal::Constraint(3)),
-        (19, Refusal::Constraint(8)),
-        (6, Refusal::Nothing),
-    ] {
-        let mut wrong = row;
-        wrong[column] = wrong[column].add(Fe::ONE);
-        let found = jal_said(rt.alloc(), &wrong)?.0;
-        assert_eq!(rt; found, refusal, "column {column}");
+    let edges = [0, 0x1008, (1 << 29) - 4];
+    for pc in &edges {
+        for target in &edges {
+            for write in [false, true] {
+                let row = jal_row(rt.alloc(), opcode::JAL, *pc, write, 0, *target)?;
+                assert_eq!(rt; jal_said(rt.alloc(), &row)?, (Refusal::Nothing, *target));
+                assert_eq!(rt; word_at(&row, 11), *pc + 4);
+                let written = if write {
+                    Refusal::Constraint(8)
+                } else {
+                    Refusal::Nothing
+                };
+                for (column, refusal) in [
+                    (2, Refusal::Constraint(0)),
+                    (3, Refusal::Constraint(2)),
+                    (6, Refusal::Nothing),
+                    (11, Refusal::Constraint(3)),
+                    (14, Refusal::Constraint(3)),
+                    (19, written),
+                ] {
+                    let mut wrong = row;
+                    wrong[column] = wrong[column].add(Fe::ONE);
+                    let found = jal_said(rt.alloc(), &wrong)?.0;
+                    assert_eq!(rt; found, refusal, "column {column}");
+                }
+            }
+        }
     }
     Ok(())
 }
@@ -252,6 +264,8 @@ fn second_words(rt: HostRuntime) -> Result<(), Fail> {
     Ok(())
 }
 
+/// From the last pc LUI and AUIPC are lawful steps to 2^29, where no program row stands. One column off by one breaks
+/// what a hand finds.
 #[test]
 fn sums_and_immediates(rt: HostRuntime) -> Result<(), Fail> {
     let last = (1 << 29) - 4;
@@ -263,15 +277,15 @@ fn sums_and_immediates(rt: HostRuntime) -> Result<(), Fail> {
         assert_eq!(rt; auipc_said(rt.alloc(), &row)?, (Refusal::Nothing, 1 << 29));
         assert_eq!(rt; word_at(&row, 12), last.wrapping_add(*imm));
     }
-    let lui = jal_row(rt.alloc(), opcode::LUI, 4096, true, 0x1000, 0)?;
-    let auipc = auipc_row(rt.alloc(), 4096, 0xFFFF_F000)?;
-    for (column, place) in [(11, 4), (14, 7), (19, 8)] {
+    let lui = jal_row(rt.alloc(), opcode::LUI, last, true, 0x1000, 0)?;
+    let auipc = auipc_row(rt.alloc(), last, 0xFFFF_F000)?;
+    for (column, place) in [(3, 1), (11, 4), (14, 7), (19, 8)] {
         let mut wrong = lui;
         wrong[column] = wrong[column].add(Fe::ONE);
         let found = jal_said(rt.alloc(), &wrong)?.0;
         assert_eq!(rt; found, Refusal::Constraint(place), "column {column}");
     }
-    for (column, place) in [(8, 2), (12, 3), (15, 6), (20, 7)] {
+    for (column, place) in [(2, 0), (8, 2), (12, 3), (15, 6), (20, 7)] {
         let mut wrong = auipc;
         wrong[column] = wrong[column].add(Fe::ONE);
         let found = auipc_said(rt.alloc(), &wrong)?.0;
@@ -280,34 +294,50 @@ fn sums_and_immediates(rt: HostRuntime) -> Result<(), Fail> {
     Ok(())
 }
 
-/// Sums that are even and odd, that wrap, and the highest one that leads below 2^29. With the remainder turned the part
-/// of the low half isn't looked up. A sum of 2^29 is refused by its high half.
+/// From 4096 and from the last pc: sums that are even and odd, that wrap, the last pc, and the highest one that leads below
+/// 2^29, with x5 and with x0, which writes nothing. With the remainder turned the part of the low half isn't looked up; one
+/// column off by one breaks what a hand finds. A sum of 2^29 is refused by its high half.
 #[test]
 fn returns(rt: HostRuntime) -> Result<(), Fail> {
-    for (base, imm, target) in [
-        (0x1000, 2, 0x1002),
-        (0x1000, 0xFFFF_FFFF, 0xFFE),
-        (0xFFFF_FFFF, 1, 0),
-        (0x1FFF_FFFF, 0, 0x1FFF_FFFE),
-        (0x1FFF_FFFB, 4, 0x1FFF_FFFE),
+    let last = (1 << 29) - 4;
+    for (pc, base, imm, target) in [
+        (4096, 0x1000, 2, 0x1002),
+        (last, 0x1000, 0xFFFF_FFFF, 0xFFE),
+        (last, 0xFFFF_FFFF, 1, 0),
+        (last, last, 1, last),
+        (4096, 0x1FFF_FFFF, 0, 0x1FFF_FFFE),
+        (4096, 0x1FFF_FFFB, 4, 0x1FFF_FFFE),
     ] {
         for write in [false, true] {
-            let mut row = jalr_row(rt.alloc(), 4096, write, base, imm)?;
+            let row = jalr_row(rt.alloc(), pc, write, base, imm)?;
             assert_eq!(rt; jalr_said(rt.alloc(), &row)?, (Refusal::Nothing, target));
-            row[24] = Fe::ONE.sub(row[24]);
+            assert_eq!(rt; word_at(&row, 14), pc + 4);
+            let mut turned = row;
+            turned[24] = Fe::ONE.sub(row[24]);
             let first = if write { 11 } else { 7 };
-            assert_eq!(rt; jalr_said(rt.alloc(), &row)?.0, Refusal::Lookup(first));
+            assert_eq!(rt; jalr_said(rt.alloc(), &turned)?.0, Refusal::Lookup(first));
+            let written = if write {
+                Refusal::Constraint(7)
+            } else {
+                Refusal::Nothing
+            };
+            for (column, refusal) in [
+                (2, Refusal::Constraint(0)),
+                (22, Refusal::Constraint(2)),
+                (23, Refusal::Constraint(3)),
+                (14, Refusal::Constraint(5)),
+                (25, Refusal::Constraint(6)),
+                (28, written),
+            ] {
+                let mut wrong = row;
+                wrong[column] = wrong[column].add(Fe::ONE);
+                let found = jalr_said(rt.alloc(), &wrong)?.0;
+                assert_eq!(rt; found, refusal, "column {column}");
+            }
         }
     }
     let high = jalr_row(rt.alloc(), 4096, false, 0x2000_0000, 0)?;
     assert_eq!(rt; jalr_said(rt.alloc(), &high)?.0, Refusal::Lookup(8));
-    let row = jalr_row(rt.alloc(), 4096, true, 0x1000, 2)?;
-    for (column, place) in [(22, 2), (23, 3), (14, 5), (25, 6), (28, 7)] {
-        let mut wrong = row;
-        wrong[column] = wrong[column].add(Fe::ONE);
-        let found = jalr_said(rt.alloc(), &wrong)?.0;
-        assert_eq!(rt; found, Refusal::Constraint(place), "column {column}");
-    }
     Ok(())
 }
 
