@@ -24,10 +24,7 @@ use Rattle.chip_store.specs.Store.{store_limb}
 use Rattle.adapter_regs.specs.Next.{next_by}
 use Rattle.chip_branch.specs.Branch.{branch_numbers, branch_touches}
 use Rattle.chip_branch.specs.Conditions.{apart_by, equal_constraints, either_way}
-use Rattle.chip_jump.specs.Link.{number_by, link_difference}
-use Rattle.chip_jump.specs.JalLui.{jal_constraints, jal_lines, jal_numbers, jal_touches}
-use Rattle.chip_jump.specs.Auipc.{auipc_constraints, auipc_lines, auipc_numbers, auipc_touches}
-use Rattle.chip_jump.specs.Jalr.{jalr_constraints, jalr_lines, jalr_numbers, jalr_touches}
+use Rattle.chip_jump.specs.Link.{number_by, link_difference, link_numbers}
 use Rattle.gadget_products.specs.Product.{place, places}
 use Rattle.gadget_products.specs.Carry.{carry_out, carries, last_carry}
 use Rattle.gadget_products.specs.Multiply.{extended, product_carries}
@@ -48,9 +45,7 @@ use Rattle.chip_load.specs.Load.{load_table}
 use Rattle.chip_store.specs.Store.{store_table}
 use Rattle.chip_branch.specs.Branch.{branch_form}
 use Rattle.chip_branch.specs.Conditions.{equal_condition, order_condition}
-use Rattle.chip_jump.specs.JalLui.{jal_lui_form}
-use Rattle.chip_jump.specs.Auipc.{auipc_form}
-use Rattle.chip_jump.specs.Jalr.{jalr_form}
+use Rattle.chip_jump.specs.Cores.{jal_lui_form, auipc_form, jalr_form}
 use Rattle.chip_mul.specs.Mul.{mul_core}
 use Rattle.chip_divrem.specs.DivRem.{divrem_core}
 use Rattle.chip_io.specs.Hint.{hint_table}
@@ -101,15 +96,15 @@ unfolding bit flag_constraints path_lines list_of marks_sum equal_above marked_d
 branch_lt_sized = record { constraints = λ row. refl; events = λ hi row. refl }
 
 pub jal_lui_sized : Sized (jal_lui_form) (size 9 11)
-unfolding flag_constraints path_lines time_constraint touch_constraint touch_lines columns_by form_constraints bit gated_difference next_by number_by link_difference jal_constraints jal_lines jal_numbers jal_touches
+unfolding flag_constraints path_lines time_constraint touch_constraint touch_lines columns_by form_constraints bit gated_difference next_by number_by link_difference link_numbers
 jal_lui_sized = record { constraints = λ row. refl; events = λ hi row. refl }
 
 pub auipc_sized : Sized (auipc_form) (size 8 15)
-unfolding flag_constraints path_lines time_constraint touch_constraint touch_lines columns_by form_constraints bit list_of sum_constraints carry_out gated_bit number_by auipc_constraints auipc_lines auipc_numbers auipc_touches
+unfolding flag_constraints path_lines time_constraint touch_constraint touch_lines columns_by form_constraints bit list_of sum_constraints carry_out gated_bit number_by link_numbers
 auipc_sized = record { constraints = λ row. refl; events = λ hi row. refl }
 
 pub jalr_sized : Sized (jalr_form) (size 8 17)
-unfolding flag_constraints path_lines time_constraint touch_constraint touch_lines columns_by form_constraints bit pointer_constraints low_half high_half half_out part pointer number_by link_difference jalr_constraints jalr_lines jalr_numbers jalr_touches
+unfolding flag_constraints path_lines time_constraint touch_constraint touch_lines columns_by form_constraints bit pointer_constraints low_half high_half half_out part pointer number_by link_difference link_numbers
 jalr_sized = record { constraints = λ row. refl; events = λ hi row. refl }
 
 pub mul_sized : Sized (regs_form mul_core) (size 12 33)
