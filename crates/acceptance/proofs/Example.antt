@@ -18,6 +18,7 @@ use Rattle.vm_isa.proofs.InstrLaws.{numbers_of-nop}
 use Rattle.vm_transpile.specs.Program.{program_of}
 use Rattle.vm_transpile.proofs.Ranges.{rows_in_range}
 use Rattle.vm_transpile.proofs.RowOrder.{rises_few}
+use Rattle.vm_transpile.proofs.Starts.{zero_bytes}
 use Rattle.vm_transpile.proofs.Texts.{program_rises}
 use Rattle.vm_field.specs.Field.{field_add, modulus}
 use Rattle.vm_trace.specs.declared.page.TheConstants.{PUBLIC_LABEL}
@@ -121,10 +122,6 @@ unfolding path_from
 path_digests m l i zero = tt
 path_digests m l i (suc n) = (length-sha256 (node m l (beside i)), path_digests m (suc l) (i / 2) n)
 
-pub zeros_are_bytes : (n : ℕ) → IsBytes (replicate n 0)
-zeros_are_bytes zero = tt
-zeros_are_bytes (suc n) = (omega arith, zeros_are_bytes n)
-
 pub path_digests_of : (m : Leaves) (label : ℕ) → AreDigests (path_of m label)
 unfolding path_of
 path_digests_of m label = All-from_recursion (λ d. length d ≡ 32) (path_from m 0 label 25) (path_digests m 0 label 25)
@@ -132,7 +129,7 @@ path_digests_of m label = All-from_recursion (λ d. length d ≡ 32) (path_from 
 no_public : (image : Loaded) → IsPublic (replicate 64 0) (path_of (start_map image) PUBLIC_LABEL) (root (start_map image))
 unfolding path_of
 no_public image = record {
-  whole = record { size = refl; bytes = zeros_are_bytes 64 };
+  whole = record { size = refl; bytes = zero_bytes 64 };
   levels = length-path_from (start_map image) 0 PUBLIC_LABEL 25;
   digests = path_digests_of (start_map image) PUBLIC_LABEL;
   leads = subst (λ (leaf : List ℕ). climb PUBLIC_LABEL leaf (path_of (start_map image) PUBLIC_LABEL) ≡ root (start_map image))
@@ -217,7 +214,7 @@ still_canonical x version image end time codes tables program code first spelled
   );
   claim = record {
     code = byte;
-    public_bytes = record { size = refl; bytes = zeros_are_bytes 64 };
+    public_bytes = record { size = refl; bytes = zero_bytes 64 };
     levels = path_levels (start_map image);
     path = path_canonical (start_map image) PUBLIC_LABEL;
   };

@@ -48,7 +48,7 @@ zero_at zero r = refl
 zero_at (suc n) zero = refl
 zero_at (suc n) (suc r) = zero_at n r
 
-zero_bytes : (n : ℕ) → IsBytes (replicate n 0)
+pub zero_bytes : (n : ℕ) → IsBytes (replicate n 0)
 zero_bytes zero = tt
 zero_bytes (suc n) = (omega arith, zero_bytes n)
 
