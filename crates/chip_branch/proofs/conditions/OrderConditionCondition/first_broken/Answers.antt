@@ -1,6 +1,6 @@
 use Rattle.std.proofs.Common.{refl}
 use Rattle.vm_field.specs.Limbs.{list_of}
-use Rattle.chip_branch.proofs.order.OrderConditionCondition.first_broken.Goals as goal
+use Rattle.chip_branch.proofs.conditions.OrderConditionCondition.first_broken.Goals as goal
 
 pub returns : goal.returns
 unfolding list_of

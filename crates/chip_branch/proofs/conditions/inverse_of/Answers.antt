@@ -1,9 +1,9 @@
-use Rattle.std.proofs.Common.{rules, ◌≡◌, ◌<◌, ℕ}
+use Rattle.std.proofs.Common.{rules, ◌<◌}
 use Rattle.vm_field.specs.Field.{modulus}
 use Rattle.vm_field.proofs.Inverse.{inverse_unique}
 use Rattle.chip_branch.specs.Conditions.{inverse_of}
-use Rattle.chip_branch.specs.lemmas.Equal.{inverse_is}
-use Rattle.chip_branch.proofs.equal.inverse_of.Goals as goal
+use Rattle.chip_branch.specs.lemmas.Conditions.{inverse_is}
+use Rattle.chip_branch.proofs.conditions.inverse_of.Goals as goal
 
 pub returns-in-Some : goal.returns-in-Some
 returns-in-Some c =

@@ -1,6 +1,6 @@
 use Rattle.std.proofs.Common.{refl}
 use Rattle.vm_field.specs.Limbs.{list_of}
-use Rattle.chip_branch.proofs.order.OrderConditionCondition.fill.Goals as goal
+use Rattle.chip_branch.proofs.conditions.OrderConditionCondition.fill.Goals as goal
 
 pub returns : goal.returns
 unfolding list_of

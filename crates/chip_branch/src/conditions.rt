@@ -1,12 +1,13 @@
-//! BEQ and BNE: whether two words are the same.
+//! The two conditions: whether two words are the same, and which of them is below the other.
 
-ghost use Rattle.std.specs.Prelude.{◌≡◌, ◌≢◌, length, ◌∷◌, []};
+ghost use Rattle.std.specs.Prelude.{◌≡◌, ◌≢◌, length};
 ghost use Rattle.vm_field.specs.Field.{field_sub};
 ghost use Rattle.air_core.specs.Ring.{field};
-ghost use Rattle.chip_branch.specs.Conditions.{apart_by, equal_constraints, either_way, inverse_of, equal_cells};
+ghost use Rattle.chip_branch.specs.Conditions.{apart_by, equal_constraints, either_way, inverse_of, equal_cells, signed_by};
 
 use crate::Condition;
 use air_core::{EventSink, OutOfMemory, bit, first_nonzero, flag_sum, gated_difference};
+use gadget_limbs::{emit_ranges, fill_less, less_broken, less_ranges};
 use vm_field::{Fe, Limbs};
 use vm_isa::opcode;
 
@@ -45,7 +46,7 @@ fn equal_constraints(valid: Fe, own: &[Fe], x: Limbs, y: Limbs) -> [Fe; 6]
 
 /// straight * x + turned * (1 - x)
 #[tactic(auto, unfolding(crate::specs::Conditions::either_way))]
-pub fn either_way(straight: Fe, turned: Fe, x: Fe) -> Fe
+fn either_way(straight: Fe, turned: Fe, x: Fe) -> Fe
     ensures { result ≡ either_way field straight turned x }
 {
     straight.mul(x).add(turned.mul(Fe::ONE.sub(x)))
@@ -92,7 +93,7 @@ fn equal_cells(x: Limbs, y: Limbs) -> [Fe; 5]
 impl Condition for EqualCondition {
     ghost use Rattle.std.specs.Prelude.{refl};
     ghost use Rattle.chip_branch.specs.Conditions.{equal_condition};
-    ghost use Rattle.chip_branch.specs.lemmas.Equal.{equal_laws};
+    ghost use Rattle.chip_branch.specs.lemmas.Conditions.{equal_laws};
 
     const FLAGS: usize = 2;
 
@@ -145,5 +146,87 @@ impl Condition for EqualCondition {
 
     fn fill(place: usize, left: Limbs, right: Limbs, own: &mut [Fe]) {
         own.copy_from_slice(&equal_cells(left, right));
+    }
+}
+
+/// The condition of BLT, BLTU, BGE and BGEU: the columns of LT. It has no values.
+#[derive(Clone, Copy, Debug)]
+pub struct OrderCondition;
+
+/// The opcode of each flag of that.
+const ORDER_OPCODES: [u16; 4] = [
+    opcode::BLT as u16,
+    opcode::BLTU as u16,
+    opcode::BGE as u16,
+    opcode::BGEU as u16,
+];
+
+/// 1 where words are signed.
+fn signed_by(flags: &[Fe]) -> Fe
+    requires { length flags.now ≡ 4 }
+    ensures { result ≡ signed_by field flags.now }
+{
+    flags[0].add(flags[2])
+}
+
+impl Condition for OrderCondition {
+    ghost use Rattle.std.specs.Prelude.{refl};
+    ghost use Rattle.chip_branch.specs.Conditions.{order_condition};
+    ghost use Rattle.chip_branch.specs.lemmas.Conditions.{order_laws};
+
+    const FLAGS: usize = 4;
+
+    const OWN: usize = 8;
+
+    ghost FLAGS = { 4 };
+
+    ghost OWN = { 8 };
+
+    ghost condition = { order_condition };
+
+    ghost sizes = { (refl, refl) };
+
+    ghost laws = { order_laws };
+
+    fn owns(op: u8) -> bool {
+        opcode::BLT <= op && op <= opcode::BGEU
+    }
+
+    fn opcode(flags: &[Fe]) -> Fe {
+        let flags = [flags[0], flags[1], flags[2], flags[3]];
+        air_core::opcode(&flags, &ORDER_OPCODES)
+    }
+
+    fn taken(flags: &[Fe], own: &[Fe], left: Limbs, right: Limbs) -> Fe {
+        let below = flags[0].add(flags[1]);
+        let above = flags[2].add(flags[3]);
+        either_way(below, above, own[7])
+    }
+
+    fn constraints() -> u32 {
+        17
+    }
+
+    fn first_broken(from: u32, flags: &[Fe], own: &[Fe], left: Limbs, right: Limbs) -> Option<u32> {
+        less_broken(from, &left.array(), &right.array(), own)
+    }
+
+    fn lookups<S: EventSink>(
+        flags: &[Fe],
+        own: &[Fe],
+        left: Limbs,
+        right: Limbs,
+        sink: &mut S,
+    ) -> Result<(), OutOfMemory> {
+        let ranges = less_ranges::<4>(signed_by(flags), own);
+        emit_ranges(flag_sum(flags), Fe::of_u16(8), &ranges, sink)
+    }
+
+    fn place(op: u8) -> usize {
+        (op - opcode::BLT) as usize
+    }
+
+    fn fill(place: usize, left: Limbs, right: Limbs, own: &mut [Fe]) {
+        fill_less(place % 2 == 0, &left.array(), &right.array(), own);
     }
 }
