@@ -1,5 +1,5 @@
 -- The filled columns of a division meet its constraints and lookups.
-use Rattle.std.proofs.Common.{◌≡◌, ◌≢◌, ℕ, ◌+◌, ◌*◌, ◌/◌, ◌%◌, ◌^◌, ◌<◌, ◌≤◌, ◌⊎◌, ◌&&◌, nat_eq, nat_lt, mod-lt, Bool, true, false, List, [], ◌∷◌, ◌++◌, length, slice_index, refl, sym, ap, subst, ◌∙◌, arith, lit≤, inl, inr}
+use Rattle.std.proofs.Common.{◌≡◌, ◌≢◌, ℕ, ◌+◌, ◌*◌, ◌/◌, ◌%◌, ◌^◌, ◌<◌, ◌≤◌, ◌⊎◌, ◌&&◌, nat_eq, nat_lt, mod-lt, Bool, true, false, List, ◌++◌, slice_index, refl, sym, ap, subst, ◌∙◌, arith, lit≤, inl, inr}
 use Rattle.std.proofs.lemmas.Bool.{cases_eq, ne_eqb}
 use Rattle.std.proofs.lemmas.Bool.Decides.{nat_tests}
 use Rattle.std.specs.Prelude.{if◌then◌else◌}
@@ -24,14 +24,13 @@ use Rattle.air_core.specs.Ring.{field}
 use Rattle.air_core.specs.Sheet.{AllZero, AllBelow}
 use Rattle.gadget_limbs.specs.Less.{less_ranges, less_filled, marks_of}
 use Rattle.gadget_limbs.specs.OrderLaws.{LessMeets, digits_of}
-use Rattle.gadget_limbs.specs.Ranges.{range_lines}
 use Rattle.gadget_limbs.proofs.LimbsLaws.{word_below, limbs_word, bytes_below}
 use Rattle.gadget_limbs.proofs.RangeLaws.{good_ranges, ranges_count}
 use Rattle.gadget_limbs.proofs.SignLaws.{sign_full_zero, sign_full_row, from_bool_small, negative_holds}
 use Rattle.gadget_limbs.proofs.WordOrder.{word_order, filled_order}
-use Rattle.gadget_divide.specs.Divided.{Divided, divided_of, order_of, signs_differ, zero_constraints, not_below, operand_constraints, result_constraints, divided_bytes, divided_lookups, quotient_by, remainder_by, cells_of, order_cells, divided_filled}
+use Rattle.gadget_divide.specs.Divided.{Divided, divided_of, order_of, zero_constraints, not_below, operand_constraints, result_constraints, divided_bytes, divided_lookups, quotient_by, remainder_by, cells_of, order_cells, divided_filled}
 use Rattle.gadget_divide.specs.Laws.{word, DividedMeets, FilledDivided}
-use Rattle.gadget_divide.proofs.DividedSays.{MaySend, Zero, Byte, either, either_is, twice}
+use Rattle.gadget_divide.proofs.DividedSays.{Zero, Byte, either, either_is, twice}
 
 abbrev Few : Event → Type 0
 Few e = e.count ≤ 1

@@ -1,5 +1,5 @@
 -- What the columns of a division say.
-use Rattle.std.proofs.Common.{◌≡◌, ◌≢◌, ℕ, ◌+◌, ◌*◌, ◌^◌, ◌<◌, ◌≤◌, ◌&&◌, not, nat_lt, Bool, true, false, List, [], ◌∷◌, ◌++◌, refl, sym, ◌∙◌, arith, inl, inr}
+use Rattle.std.proofs.Common.{◌≡◌, ◌≢◌, ℕ, ◌^◌, ◌<◌, ◌≤◌, ◌&&◌, not, nat_lt, Bool, true, false, List, refl, sym, ◌∙◌, arith, inl, inr}
 use Rattle.std.specs.Prelude.{if◌then◌else◌}
 use Rattle.std.proofs.lemmas.Bool.{cases_eq}
 use Rattle.std.proofs.lemmas.Bool.Decides.{nat_tests}
@@ -174,7 +174,7 @@ says sign gate c left right low p q parts e words_hold results_hold good =
       dividend = negative_law t c.left_sign left c.dividend g p l.bytes.dividend k.dividend;
       divisor = divisor;
       quotient = negative_law (either t s) (signs_differ field c.left_sign c.right_sign) c.quotient c.signed_quotient (either_is t s c.left_sign c.right_sign g h) parts.quotient l.bytes.signed_quotient r.quotient
-      ∙ twice t s (word c.quotient) (word_below c.quotient parts.quotient);
+          ∙ twice t s (word c.quotient) (word_below c.quotient parts.quotient);
       remainder = negative_law t c.left_sign c.remainder c.signed_remainder g parts.remainder l.bytes.signed_remainder r.remainder;
       by_zero = λ n.
           elim (cases_eq c.by_zero 1) [

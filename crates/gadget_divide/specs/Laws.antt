@@ -1,8 +1,7 @@
 -- What the columns of a division say beside its product, and that those that are filled say it.
-use Rattle.std.specs.Prelude.{◌≡◌, ◌≢◌, ℕ, ◌+◌, ◌*◌, ◌^◌, ◌<◌, ◌≤◌, ◌&&◌, Bool, List, length}
+use Rattle.std.specs.Prelude.{◌≡◌, ◌≢◌, ℕ, ◌+◌, ◌*◌, ◌<◌, ◌≤◌, ◌&&◌, Bool, List, length}
 use Rattle.std.specs.List.{AllByRecursion}
 use Rattle.std.specs.Int.{from_bool}
-use Rattle.vm_field.specs.Field.{modulus}
 use Rattle.vm_field.specs.declared.limbs.Limbs.{Limbs}
 use Rattle.vm_field.specs.Limbs.{list_of}
 use Rattle.vm_word.specs.Arithmetic.{is_negative, negated_if}

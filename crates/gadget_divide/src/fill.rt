@@ -80,8 +80,8 @@ fn cells(n: &Words) -> [Fe; 27]
     let (q, r) = (limbs_of(n.quotient), limbs_of(n.remainder));
     let (u, v) = (limbs_of(n.signed_quotient), limbs_of(n.signed_remainder));
     [
-        t, s, z, b.x0, b.x1, b.x2, b.x3, d.x0, d.x1, d.x2, d.x3, q.x0, q.x1, q.x2, q.x3, r.x0, r.x1,
-        r.x2, r.x3, u.x0, u.x1, u.x2, u.x3, v.x0, v.x1, v.x2, v.x3,
+        t, s, z, b.x0, b.x1, b.x2, b.x3, d.x0, d.x1, d.x2, d.x3, q.x0, q.x1, q.x2, q.x3, r.x0,
+        r.x1, r.x2, r.x3, u.x0, u.x1, u.x2, u.x3, v.x0, v.x1, v.x2, v.x3,
     ]
 }
 

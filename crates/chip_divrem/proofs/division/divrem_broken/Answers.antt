@@ -1,4 +1,4 @@
-use Rattle.std.proofs.Common.{◌≡◌, ℕ, ◌+◌, List, [], ◌∷◌, ◌++◌, sym, ap, ◌∙◌, arith}
+use Rattle.std.proofs.Common.{ℕ, ◌+◌, List, [], ◌∷◌, ◌++◌, sym, ap, ◌∙◌, arith}
 use Rattle.air_core.specs.First.{first_from, or_else}
 use Rattle.air_core.specs.Ring.{field}
 use Rattle.air_core.proofs.FirstLemmas.{first_from-part}

@@ -1,11 +1,11 @@
-use Rattle.std.proofs.Common.{◌≡◌, ℕ, ◌≤◌, List, [], ◌∷◌, ◌++◌, length, refl, arith, lit≤}
+use Rattle.std.proofs.Common.{◌≡◌, ℕ, List, [], ◌∷◌, ◌++◌, length, refl}
 use Rattle.air_core.specs.declared.event.Event.{Event}
 use Rattle.air_core.specs.declared.bus.TheConstants.{XOR}
 use Rattle.air_core.specs.declared.event.Side.TheVariants.{Send}
 use Rattle.air_core.specs.Ring.{field}
 use Rattle.air_core.specs.Sheet.{event}
 use Rattle.air_core.proofs.Counted.{on_err_anyway, on_err_map}
-use Rattle.air_core.proofs.Handing.{all_all, all_some, some_none, room_left, on_ok_map}
+use Rattle.air_core.proofs.Handing.{all_all, all_some, some_none, on_ok_map}
 use Rattle.vm_field.specs.Limbs.{list_of}
 use Rattle.gadget_limbs.specs.Less.{less_ranges}
 use Rattle.gadget_limbs.specs.Ranges.{range_lines}
