@@ -28,9 +28,13 @@ put c =
           let value = w.in_default.ensures.value in
           let update = w.in_ok-insert.ensures.updates.0 in
           let here : Place (List ℕ) → Bool = λ place. is_place e.bus e.tuple place in
-          rw (w.self-inside-is) (no_sums, ap (λ (o : Option Sums). unwrap_or o no_sums) value, λ place. update place
-              ∙ ap (λ (s : Sums). cond (here place) (Some s) (lookup (is_place place.bus place.tuple) c.get_mut.follows.lender-at-none.entries)) w.add-in_default.ensures
-              ∙ ap (λ (places : Places). cond (here place) (Some (add_on e.side e.count no_sums)) (lookup (is_place place.bus place.tuple) places)) (ap (λ m. m.entries) c.get_mut.follows.holds-at-none))
+          rw (w.self-inside-is) (
+            no_sums,
+            ap (λ (o : Option Sums). unwrap_or o no_sums) value,
+            λ place. update place
+                ∙ ap (λ (s : Sums). cond (here place) (Some s) (lookup (is_place place.bus place.tuple) c.get_mut.follows.lender-at-none.entries)) w.add-in_default.ensures
+                ∙ ap (λ (places : Places). cond (here place) (Some (add_on e.side e.count no_sums)) (lookup (is_place place.bus place.tuple) places)) (ap (λ m. m.entries) c.get_mut.follows.holds-at-none),
+          )
     ]
 
 -- and nothing else
