@@ -18,12 +18,14 @@ use Rattle.vm_isa.proofs.InstrLaws.{numbers_of-nop}
 use Rattle.vm_transpile.specs.Program.{program_of}
 use Rattle.vm_transpile.proofs.Ranges.{rows_in_range}
 use Rattle.vm_transpile.proofs.RowOrder.{rises_few}
+use Rattle.vm_transpile.proofs.Starts.{zero_bytes}
 use Rattle.vm_transpile.proofs.Texts.{program_rises}
 use Rattle.vm_field.specs.Field.{field_add, modulus}
 use Rattle.vm_trace.specs.declared.page.TheConstants.{PUBLIC_LABEL}
 use Rattle.vm_trace.specs.Canonical.{IsNumber, AreTables, IsCountList, IsDigest, IsCanonical}
 use Rattle.vm_trace.specs.Limits.{limits_of}
 use Rattle.vm_trace.specs.declared.count.CountEntry.{CountEntry}
+use Rattle.air_core.specs.declared.bus.TheConstants.{EXECUTION, PROGRAM}
 use Rattle.air_core.specs.declared.event.Event.{Event}
 use Rattle.air_core.specs.declared.event.Side.{Side}
 use Rattle.air_core.specs.declared.event.Side.TheVariants.{Send, Receive}
@@ -88,18 +90,18 @@ other_received b c bus point tuple = rw (and_none (nat_eq b bus)) refl
 same_amount : (b c bus : ℕ) (point tuple : List ℕ) → amount_at Send bus tuple (sent b c point) ≡ amount_at Receive bus tuple (received b c point)
 same_amount b c bus point tuple = refl
 
-rests : (point : List ℕ) → Balanced (sent 0 1 point ∷ received 0 1 point ∷ [])
+rests : (point : List ℕ) → Balanced (sent EXECUTION 1 point ∷ received EXECUTION 1 point ∷ [])
 rests point = record {
   even = λ bus tuple.
       omega (
         arith,
-        total-cons Send bus tuple (sent 0 1 point) (received 0 1 point ∷ []),
-        total-cons Send bus tuple (received 0 1 point) [],
-        total-cons Receive bus tuple (sent 0 1 point) (received 0 1 point ∷ []),
-        total-cons Receive bus tuple (received 0 1 point) [],
-        other_sent 0 1 bus point tuple,
-        other_received 0 1 bus point tuple,
-        same_amount 0 1 bus point tuple,
+        total-cons Send bus tuple (sent EXECUTION 1 point) (received EXECUTION 1 point ∷ []),
+        total-cons Send bus tuple (received EXECUTION 1 point) [],
+        total-cons Receive bus tuple (sent EXECUTION 1 point) (received EXECUTION 1 point ∷ []),
+        total-cons Receive bus tuple (received EXECUTION 1 point) [],
+        other_sent EXECUTION 1 bus point tuple,
+        other_received EXECUTION 1 bus point tuple,
+        same_amount EXECUTION 1 bus point tuple,
       );
 }
 
@@ -120,10 +122,6 @@ unfolding path_from
 path_digests m l i zero = tt
 path_digests m l i (suc n) = (length-sha256 (node m l (beside i)), path_digests m (suc l) (i / 2) n)
 
-pub zeros_are_bytes : (n : ℕ) → IsBytes (replicate n 0)
-zeros_are_bytes zero = tt
-zeros_are_bytes (suc n) = (omega arith, zeros_are_bytes n)
-
 pub path_digests_of : (m : Leaves) (label : ℕ) → AreDigests (path_of m label)
 unfolding path_of
 path_digests_of m label = All-from_recursion (λ d. length d ≡ 32) (path_from m 0 label 25) (path_digests m 0 label 25)
@@ -131,7 +129,7 @@ path_digests_of m label = All-from_recursion (λ d. length d ≡ 32) (path_from 
 no_public : (image : Loaded) → IsPublic (replicate 64 0) (path_of (start_map image) PUBLIC_LABEL) (root (start_map image))
 unfolding path_of
 no_public image = record {
-  whole = record { size = refl; bytes = zeros_are_bytes 64 };
+  whole = record { size = refl; bytes = zero_bytes 64 };
   levels = length-path_from (start_map image) 0 PUBLIC_LABEL 25;
   digests = path_digests_of (start_map image) PUBLIC_LABEL;
   leads = subst (λ (leaf : List ℕ). climb PUBLIC_LABEL leaf (path_of (start_map image) PUBLIC_LABEL) ≡ root (start_map image))
@@ -146,7 +144,7 @@ rising_none = λ k h. absurd (omega (arith, h))
 
 -- a segment that touches no page holds where its rows hold and its events balance
 still_holds : (x : System) (image : Loaded) (end time : ℕ) (codes : List ℕ) (tables : List (List (List ℕ))) (program : List CountEntry) → length tables ≡ length x.parts → EachRow IsRow x.parts tables → EachRow RowHolds x.parts tables → most_slots x.parts tables < 2 ^ x.time_bits
-    → Balanced (connector_events (record { pc = image.entry; time = 1 }) (record { pc = end; time = time }) ++ (all_events x.parts tables ++ ((received_on (program_of image) 1 program ++ []) ++ [])))
+    → Balanced (connector_events (record { pc = image.entry; time = 1 }) (record { pc = end; time = time }) ++ (all_events x.parts tables ++ ((received_on (program_of image) PROGRAM program ++ []) ++ [])))
     → SegmentHolds x (program_of image) (still_segment image end time codes tables program)
 still_holds x image end time codes tables program count rows hold slots balanced = record {
   count = count;
@@ -216,7 +214,7 @@ still_canonical x version image end time codes tables program code first spelled
   );
   claim = record {
     code = byte;
-    public_bytes = record { size = refl; bytes = zeros_are_bytes 64 };
+    public_bytes = record { size = refl; bytes = zero_bytes 64 };
     levels = path_levels (start_map image);
     path = path_canonical (start_map image) PUBLIC_LABEL;
   };
@@ -243,7 +241,7 @@ end_in_range elf image pc code has ends =
 
 resting_holds : (x : System) (image : Loaded) → SegmentHolds x (program_of image) (still_segment image image.entry 1 (map (λ (p : Part). 0) x.parts) (none x.parts) [])
 resting_holds x image =
-    let balanced = subst (λ (events : List Event). Balanced (sent 0 1 (image.entry ∷ 1 ∷ []) ∷ received 0 1 (image.entry ∷ 1 ∷ []) ∷ (events ++ []))) (sym (no_events x.parts)) (rests (image.entry ∷ 1 ∷ [])) in
+    let balanced = subst (λ (events : List Event). Balanced (sent EXECUTION 1 (image.entry ∷ 1 ∷ []) ∷ received EXECUTION 1 (image.entry ∷ 1 ∷ []) ∷ (events ++ []))) (sym (no_events x.parts)) (rests (image.entry ∷ 1 ∷ [])) in
     still_holds x image image.entry 1 (map (λ (p : Part). 0) x.parts) (none x.parts) [] (length-map x.parts (λ p. [])) (each_none _ x.parts) (each_none _ x.parts) (some_slots x) balanced
   where
     some_slots : (x : System) → most_slots x.parts (none x.parts) < 2 ^ x.time_bits
@@ -274,7 +272,7 @@ step_row pc = pc ∷ 1 ∷ 1 ∷ []
 abbrev nop_tuple : ℕ → List ℕ
 nop_tuple pc = pc ∷ 39 ∷ 0 ∷ 0 ∷ 0 ∷ 0 ∷ 0 ∷ 0 ∷ 0 ∷ 0 ∷ 0 ∷ 0 ∷ []
 
-step_lines : (hi pc : ℕ) → pc < 2 ^ 29 → (nop_sheet hi).lines (step_row pc) ≡ received 0 1 (pc ∷ 1 ∷ []) ∷ sent 0 1 ((pc + 4) ∷ 2 ∷ []) ∷ sent 1 1 (nop_tuple pc) ∷ []
+step_lines : (hi pc : ℕ) → pc < 2 ^ 29 → (nop_sheet hi).lines (step_row pc) ≡ received EXECUTION 1 (pc ∷ 1 ∷ []) ∷ sent EXECUTION 1 ((pc + 4) ∷ 2 ∷ []) ∷ sent PROGRAM 1 (nop_tuple pc) ∷ []
 unfolding columns_by path_lines
 step_lines hi pc low =
     let next : field_add pc 4 ≡ pc + 4 = omega (arith, low) in
@@ -285,46 +283,46 @@ unfolding columns_by form_constraints flag_constraints bit
 step_holds hi pc = (refl, (refl, tt))
 
 -- the connector, the row, and its program row
-six_balance : (a b c : List ℕ) → Balanced (sent 0 1 a ∷ received 0 1 b ∷ received 0 1 a ∷ sent 0 1 b ∷ sent 1 1 c ∷ received 1 1 c ∷ [])
+six_balance : (a b c : List ℕ) → Balanced (sent EXECUTION 1 a ∷ received EXECUTION 1 b ∷ received EXECUTION 1 a ∷ sent EXECUTION 1 b ∷ sent PROGRAM 1 c ∷ received PROGRAM 1 c ∷ [])
 six_balance a b c = record { even = even }
   where
-    even : (bus : ℕ) (tuple : List ℕ) → IsEven bus tuple (sent 0 1 a ∷ received 0 1 b ∷ received 0 1 a ∷ sent 0 1 b ∷ sent 1 1 c ∷ received 1 1 c ∷ [])
+    even : (bus : ℕ) (tuple : List ℕ) → IsEven bus tuple (sent EXECUTION 1 a ∷ received EXECUTION 1 b ∷ received EXECUTION 1 a ∷ sent EXECUTION 1 b ∷ sent PROGRAM 1 c ∷ received PROGRAM 1 c ∷ [])
     even bus tuple =
-        let sum : (side : Side) → total side bus tuple (sent 0 1 a ∷ received 0 1 b ∷ received 0 1 a ∷ sent 0 1 b ∷ sent 1 1 c ∷ received 1 1 c ∷ [])
-        ≡ amount_at side bus tuple (sent 0 1 a) + (amount_at side bus tuple (received 0 1 b) + (amount_at side bus tuple (received 0 1 a) + (amount_at side bus tuple (sent 0 1 b) + (amount_at side bus tuple (sent 1 1 c) + amount_at side bus tuple (received 1 1 c)))))
+        let sum : (side : Side) → total side bus tuple (sent EXECUTION 1 a ∷ received EXECUTION 1 b ∷ received EXECUTION 1 a ∷ sent EXECUTION 1 b ∷ sent PROGRAM 1 c ∷ received PROGRAM 1 c ∷ [])
+        ≡ amount_at side bus tuple (sent EXECUTION 1 a) + (amount_at side bus tuple (received EXECUTION 1 b) + (amount_at side bus tuple (received EXECUTION 1 a) + (amount_at side bus tuple (sent EXECUTION 1 b) + (amount_at side bus tuple (sent PROGRAM 1 c) + amount_at side bus tuple (received PROGRAM 1 c)))))
         = λ side.
         omega (
           arith,
-          total-cons side bus tuple (sent 0 1 a) (received 0 1 b ∷ received 0 1 a ∷ sent 0 1 b ∷ sent 1 1 c ∷ received 1 1 c ∷ []),
-          total-cons side bus tuple (received 0 1 b) (received 0 1 a ∷ sent 0 1 b ∷ sent 1 1 c ∷ received 1 1 c ∷ []),
-          total-cons side bus tuple (received 0 1 a) (sent 0 1 b ∷ sent 1 1 c ∷ received 1 1 c ∷ []),
-          total-cons side bus tuple (sent 0 1 b) (sent 1 1 c ∷ received 1 1 c ∷ []),
-          total-cons side bus tuple (sent 1 1 c) (received 1 1 c ∷ []),
-          total-cons side bus tuple (received 1 1 c) [],
+          total-cons side bus tuple (sent EXECUTION 1 a) (received EXECUTION 1 b ∷ received EXECUTION 1 a ∷ sent EXECUTION 1 b ∷ sent PROGRAM 1 c ∷ received PROGRAM 1 c ∷ []),
+          total-cons side bus tuple (received EXECUTION 1 b) (received EXECUTION 1 a ∷ sent EXECUTION 1 b ∷ sent PROGRAM 1 c ∷ received PROGRAM 1 c ∷ []),
+          total-cons side bus tuple (received EXECUTION 1 a) (sent EXECUTION 1 b ∷ sent PROGRAM 1 c ∷ received PROGRAM 1 c ∷ []),
+          total-cons side bus tuple (sent EXECUTION 1 b) (sent PROGRAM 1 c ∷ received PROGRAM 1 c ∷ []),
+          total-cons side bus tuple (sent PROGRAM 1 c) (received PROGRAM 1 c ∷ []),
+          total-cons side bus tuple (received PROGRAM 1 c) [],
         ) in
         omega (
           arith,
           sum Send,
           sum Receive,
-          other_sent 0 1 bus b tuple,
-          other_sent 0 1 bus a tuple,
-          other_sent 1 1 bus c tuple,
-          other_received 0 1 bus a tuple,
-          other_received 0 1 bus b tuple,
-          other_received 1 1 bus c tuple,
-          same_amount 0 1 bus a tuple,
-          same_amount 0 1 bus b tuple,
-          same_amount 1 1 bus c tuple,
+          other_sent EXECUTION 1 bus b tuple,
+          other_sent EXECUTION 1 bus a tuple,
+          other_sent PROGRAM 1 bus c tuple,
+          other_received EXECUTION 1 bus a tuple,
+          other_received EXECUTION 1 bus b tuple,
+          other_received PROGRAM 1 bus c tuple,
+          same_amount EXECUTION 1 bus a tuple,
+          same_amount EXECUTION 1 bus b tuple,
+          same_amount PROGRAM 1 bus c tuple,
         )
 
 step_balances : (hi : ℕ) (image : Loaded) (place : ℕ) (begins : BeginsStill image place) → InRange begins.row
-    → Balanced (connector_events (record { pc = image.entry; time = 1 }) (record { pc = image.entry + 4; time = 2 }) ++ (all_events (single (nop_sheet hi)).parts ((step_row image.entry ∷ []) ∷ []) ++ ((received_on (program_of image) 1 (record { place = place; count = 1 } ∷ []) ++ []) ++ [])))
+    → Balanced (connector_events (record { pc = image.entry; time = 1 }) (record { pc = image.entry + 4; time = 2 }) ++ (all_events (single (nop_sheet hi)).parts ((step_row image.entry ∷ []) ∷ []) ++ ((received_on (program_of image) PROGRAM (record { place = place; count = 1 } ∷ []) ++ []) ++ [])))
 step_balances hi image place begins range =
     let low : image.entry < 2 ^ 29 = omega (arith, range.low, begins.here) in
     let numbers : numbers_of begins.row ≡ nop_tuple image.entry = numbers_of-nop begins.row range begins.is_nop ∙ ap nop_tuple begins.here in
-    let said : row_events (nop_sheet hi) (step_row image.entry) ≡ received 0 1 (image.entry ∷ 1 ∷ []) ∷ sent 0 1 ((image.entry + 4) ∷ 2 ∷ []) ∷ sent 1 1 (nop_tuple image.entry) ∷ [] = ap counted (step_lines hi image.entry low) in
-    let got : received_row 1 1 (option_map numbers_of (slice_get (program_of image) place)) ≡ received 1 1 (nop_tuple image.entry) ∷ [] =
-    ap (λ (row : Option VmInstr). received_row 1 1 (option_map numbers_of row)) begins.stands ∙ ap (λ (tuple : List ℕ). received 1 1 tuple ∷ []) numbers in
+    let said : row_events (nop_sheet hi) (step_row image.entry) ≡ received EXECUTION 1 (image.entry ∷ 1 ∷ []) ∷ sent EXECUTION 1 ((image.entry + 4) ∷ 2 ∷ []) ∷ sent PROGRAM 1 (nop_tuple image.entry) ∷ [] = ap counted (step_lines hi image.entry low) in
+    let got : received_row PROGRAM 1 (option_map numbers_of (slice_get (program_of image) place)) ≡ received PROGRAM 1 (nop_tuple image.entry) ∷ [] =
+    ap (λ (row : Option VmInstr). received_row PROGRAM 1 (option_map numbers_of row)) begins.stands ∙ ap (λ (tuple : List ℕ). received PROGRAM 1 tuple ∷ []) numbers in
     rw (said, got) (six_balance (image.entry ∷ 1 ∷ []) ((image.entry + 4) ∷ 2 ∷ []) (nop_tuple image.entry))
 
 -- one row is a table of each version

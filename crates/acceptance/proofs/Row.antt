@@ -7,6 +7,7 @@ use Rattle.std.proofs.lemmas.List.Elements.{All-contains, All-from_recursion}
 use Rattle.vm_field.specs.Field.{modulus, field_add}
 use Rattle.vm_isa.specs.declared.instr.VmInstr.{VmInstr}
 use Rattle.vm_isa.specs.Instr.{InRange, numbers_of}
+use Rattle.air_core.specs.declared.bus.TheConstants.{EXECUTION, PROGRAM, MEMORY}
 use Rattle.air_core.specs.declared.event.Event.{Event}
 use Rattle.air_core.specs.declared.event.Side.TheVariants.{Send, Receive}
 use Rattle.air_core.specs.declared.hint.HintWord.{HintWord}
@@ -14,9 +15,10 @@ use Rattle.air_core.specs.Hint.{is_program, sends_program, NoHint, IsHint, Begin
 use Rattle.air_core.specs.Orders.{Member}
 use Rattle.air_core.specs.Sheet.{sent, received}
 use Rattle.air_core.specs.Step.{Touched, touched_events, Rising, on_bus, if_on, IsStep}
-use Rattle.air_core.specs.System.{time_if, times_of}
+use Rattle.air_core.specs.System.{times_of}
 use Rattle.air_core.specs.ListLemmas.{all_weaker}
 use Rattle.air_core.proofs.ElementLemmas.{all_at, all_from_members, member_left, member_right, member_flat_map, member_piece, member_cases}
+use Rattle.air_core.proofs.Only.{times_on_bus}
 use Rattle.air_core.proofs.StepLaws.{last_same}
 use Rattle.offline_memory.proofs.Members.{contains_from_member}
 use Rattle.acceptance.specs.OneRun.{RowStep}
@@ -69,11 +71,11 @@ or_false : (b : Bool) → (b || false) ≡ b
 or_false true = refl
 or_false false = refl
 
-sends_of_row : (op : ℕ) (instr : VmInstr) → list_any (is_program op) (sent 1 1 (numbers_of instr) ∷ []) ≡ nat_eq instr.op op
+sends_of_row : (op : ℕ) (instr : VmInstr) → list_any (is_program op) (sent PROGRAM 1 (numbers_of instr) ∷ []) ≡ nat_eq instr.op op
 unfolding numbers_of
 sends_of_row op instr = or_false (nat_eq instr.op op)
 
-pub sends_by : (op : ℕ) (instr : VmInstr) (events : List Event) → on_bus 1 events ≡ sent 1 1 (numbers_of instr) ∷ [] → sends_program op events ≡ nat_eq instr.op op
+pub sends_by : (op : ℕ) (instr : VmInstr) (events : List Event) → on_bus 1 events ≡ sent PROGRAM 1 (numbers_of instr) ∷ [] → sends_program op events ≡ nat_eq instr.op op
 sends_by op instr events e = any_on_bus 1 (is_program op) (program_only op) events ∙ ap (list_any (is_program op)) e ∙ sends_of_row op instr
 
 -- ---- a row that says nothing below bus 3
@@ -105,16 +107,8 @@ silent_no_hint h events silent is =
 
 -- ---- a valid row
 
-pub path_any : (a b : List ℕ) → list_any (λ e. nat_eq e.bus 0) (received 0 1 a ∷ sent 0 1 b ∷ []) ≡ true
+pub path_any : (a b : List ℕ) → list_any (λ e. nat_eq e.bus 0) (received EXECUTION 1 a ∷ sent EXECUTION 1 b ∷ []) ≡ true
 path_any a b = refl
-
-times_by : (e : Event) (es : List Event) (b : Bool) → nat_eq e.bus 0 ≡ b → times_of es ≡ times_of (on_bus 0 es) → times_of (e ∷ es) ≡ times_of (cond b (e ∷ []) [] ++ on_bus 0 es)
-times_by e es true at more = ap (λ (t : List ℕ). time_if e ++ t) more
-times_by e es false at more = rw at more
-
-times_on_bus : (events : List Event) → times_of events ≡ times_of (on_bus 0 events)
-times_on_bus [] = refl
-times_on_bus (e ∷ es) = times_by e es (nat_eq e.bus 0) refl (times_on_bus es)
 
 -- the new word of the access in slot 1
 abbrev pub slot_word : List Touched → List ℕ
@@ -140,7 +134,7 @@ slot_word_of from slots a (x ∷ xs) r (inr h) is =
 slot_one : (time slot : ℕ) → time < modulus → slot < 64 → field_add time slot ≡ field_add time 1 → slot ≡ 1
 slot_one time slot below few e = omega arith
 
-begins_at : (pc time from_pc from_time to_pc to_time : ℕ) → Member (received 0 1 (pc ∷ time ∷ [])) (received 0 1 (from_pc ∷ from_time ∷ []) ∷ sent 0 1 (to_pc ∷ to_time ∷ []) ∷ []) → time ≡ from_time
+begins_at : (pc time from_pc from_time to_pc to_time : ℕ) → Member (received EXECUTION 1 (pc ∷ time ∷ [])) (received EXECUTION 1 (from_pc ∷ from_time ∷ []) ∷ sent EXECUTION 1 (to_pc ∷ to_time ∷ []) ∷ []) → time ≡ from_time
 begins_at pc time from_pc from_time to_pc to_time (inl e) =
     let tuple : from_pc ∷ from_time ∷ [] ≡ pc ∷ time ∷ [] = ap (λ (y : Event). y.tuple) e in
     cc
@@ -148,7 +142,7 @@ begins_at pc time from_pc from_time to_pc to_time (inr (inl e)) = let side : Sen
 begins_at pc time from_pc from_time to_pc to_time (inr (inr h)) = elim h [ ]
 
 -- an access that writes a word one slot after the row's time
-written_by : (time pointer : ℕ) (word : List ℕ) (a : Touched) → time < modulus → a.slot < 64 → Member (sent 2 1 (2 ∷ pointer ∷ (word ++ (field_add time 1 ∷ [])))) (touched_events time a) → (a.slot ≡ 1) × (a.new ≡ word)
+written_by : (time pointer : ℕ) (word : List ℕ) (a : Touched) → time < modulus → a.slot < 64 → Member (sent MEMORY 1 (2 ∷ pointer ∷ (word ++ (field_add time 1 ∷ [])))) (touched_events time a) → (a.slot ≡ 1) × (a.new ≡ word)
 written_by time pointer word a below few (inl e) = let side : Receive ≡ Send = ap (λ (y : Event). y.side) e in absurd (cc)
 written_by time pointer word a below few (inr (inl e)) =
     let tuple : a.space ∷ a.pointer ∷ (a.new ++ (field_add time a.slot ∷ [])) ≡ 2 ∷ pointer ∷ (word ++ (field_add time 1 ∷ [])) = ap (λ (y : Event). y.tuple) e in
@@ -184,11 +178,11 @@ module _ (slots bits : ℕ) (instr : VmInstr) (time next : ℕ) (accesses : List
   hint_time : (t : ℕ) → BeginsAt t events → t ≡ time
   hint_time t begins =
       begins_at begins.pc t instr.pc time next (field_add time slots)
-      (subst (Member (received 0 1 (begins.pc ∷ t ∷ []))) step.spoken.path (contained_on_bus (received 0 1 (begins.pc ∷ t ∷ [])) events begins.received_at))
+      (subst (Member (received EXECUTION 1 (begins.pc ∷ t ∷ []))) step.spoken.path (contained_on_bus (received EXECUTION 1 (begins.pc ∷ t ∷ [])) events begins.received_at))
 
   hint_word : (word : List ℕ) → Writes time word events → slot_word accesses ≡ word
   hint_word word writes =
-      let event = sent 2 1 (2 ∷ writes.pointer ∷ (word ++ (field_add time 1 ∷ []))) in
+      let event = sent MEMORY 1 (2 ∷ writes.pointer ∷ (word ++ (field_add time 1 ∷ []))) in
       let there : Member event (flat_map (touched_events time) accesses) = subst (Member event) step.spoken.memory (contained_on_bus event events writes.written) in
       let piece = member_flat_map (touched_events time) event accesses there in
       let low = all_at (λ b. (0 ≤ b.slot) × (b.slot < slots)) accesses piece.of piece.stands (rising_low 0 slots accesses step.rising) in
@@ -219,18 +213,18 @@ module _ (slots bits : ℕ) (instr : VmInstr) (time next : ℕ) (accesses : List
   begins : BeginsAt time events
   begins = record {
     pc = instr.pc;
-    received_at = on_path_bus (received 0 1 (instr.pc ∷ time ∷ [])) (subst (Member (received 0 1 (instr.pc ∷ time ∷ []))) (sym step.spoken.path) (inl refl));
+    received_at = on_path_bus (received EXECUTION 1 (instr.pc ∷ time ∷ [])) (subst (Member (received EXECUTION 1 (instr.pc ∷ time ∷ []))) (sym step.spoken.path) (inl refl));
   }
 
   writes_by : (a : Touched) → Member a accesses → a.space ≡ 2 → a.slot ≡ 1 → Writes time a.new events
   writes_by a h space slot =
-      let event = sent 2 1 (a.space ∷ a.pointer ∷ (a.new ++ (field_add time a.slot ∷ []))) in
+      let event = sent MEMORY 1 (a.space ∷ a.pointer ∷ (a.new ++ (field_add time a.slot ∷ []))) in
       let there : Member event (on_bus 2 events) = subst (Member event) (sym step.spoken.memory) (member_piece (touched_events time) a event accesses h (inr (inl refl))) in
       let contained : Contains events event = contains_from_member event events (on_bus_member 2 event events there) in
       record {
         pointer = a.pointer;
-        written = subst (λ (n : ℕ). Contains events (sent 2 1 (2 ∷ a.pointer ∷ (a.new ++ (field_add time n ∷ []))))) slot
-            (subst (λ (n : ℕ). Contains events (sent 2 1 (n ∷ a.pointer ∷ (a.new ++ (field_add time a.slot ∷ []))))) space contained);
+        written = subst (λ (n : ℕ). Contains events (sent MEMORY 1 (2 ∷ a.pointer ∷ (a.new ++ (field_add time n ∷ []))))) slot
+            (subst (λ (n : ℕ). Contains events (sent MEMORY 1 (n ∷ a.pointer ∷ (a.new ++ (field_add time a.slot ∷ []))))) space contained);
       }
 
   pub is_no_hint : nat_eq instr.op 37 ≡ false → NoHint events

@@ -10,6 +10,7 @@ use Rattle.vm_isa.specs.declared.instr.VmInstr.{VmInstr}
 use Rattle.vm_isa.specs.Instr.{InRange, numbers_of}
 use Rattle.vm_isa.specs.Words.{IsBytes}
 use Rattle.vm_isa.proofs.InstrLaws.{numbers_of-same}
+use Rattle.air_core.specs.declared.bus.TheConstants.{PROGRAM}
 use Rattle.air_core.specs.declared.event.Event.{Event}
 use Rattle.air_core.specs.declared.hint.HintWord.{HintWord}
 use Rattle.air_core.specs.Counts.{weight}
@@ -62,10 +63,10 @@ silent_or_owns private sheet (e ∷ es) own =
     (silent_or_owns private sheet es own.1))
     (cases_lt e.bus 3)
 
-in_program : (program : List VmInstr) (instr : VmInstr) (events : List Event) → All InRange program → InRange instr → AllByRecursion (Looked program) events → on_bus 1 events ≡ sent 1 1 (numbers_of instr) ∷ [] → Contains program instr
+in_program : (program : List VmInstr) (instr : VmInstr) (events : List Event) → All InRange program → InRange instr → AllByRecursion (Looked program) events → on_bus 1 events ≡ sent PROGRAM 1 (numbers_of instr) ∷ [] → Contains program instr
 in_program program instr events ranges range looked said =
-    let there : Member (sent 1 1 (numbers_of instr)) (on_bus 1 events) = subst (Member (sent 1 1 (numbers_of instr))) (sym said) (inl refl) in
-    let stands = all_at (Looked program) events (sent 1 1 (numbers_of instr)) (on_bus_member 1 (sent 1 1 (numbers_of instr)) events there) looked refl in
+    let there : Member (sent PROGRAM 1 (numbers_of instr)) (on_bus 1 events) = subst (Member (sent PROGRAM 1 (numbers_of instr))) (sym said) (inl refl) in
+    let stands = all_at (Looked program) events (sent PROGRAM 1 (numbers_of instr)) (on_bus_member 1 (sent PROGRAM 1 (numbers_of instr)) events there) looked refl in
     let t = stands.program_row refl in
     let good : InRange t.row = All-contains InRange program t.row ranges t.stands in
     subst (Contains program) (sym (numbers_of-same instr t.row range.imm.four good.imm.four t.is)) t.stands

@@ -78,7 +78,7 @@ drop_four (a ∷ b ∷ c ∷ []) ys h = absurd (omega (arith, h))
 drop_four (a ∷ b ∷ c ∷ d ∷ []) ys h = refl
 drop_four (a ∷ b ∷ c ∷ d ∷ e ∷ xs) ys h = absurd (omega (arith, h))
 
-abbrev state : ℕ → Blocks → List ℕ → VmState
+abbrev pub state : ℕ → Blocks → List ℕ → VmState
 state pc blocks hints = record { pc = pc; blocks = blocks; hints = hints }
 
 -- what a step takes of the hint bytes

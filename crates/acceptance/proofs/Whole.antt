@@ -37,10 +37,11 @@ use Rattle.acceptance.specs.Accepts.{AreLinked, last_pc, last_root, steps_in, op
 use Rattle.acceptance.specs.Laws.{AcceptedFilesAreRunsOnBlocks, AcceptedFilesAreRuns, AcceptedFilesSpell, AcceptedFilesSpellOneList}
 use Rattle.acceptance.proofs.Segments.{are_pages, segment_runs, segment_spells, spelled_once}
 use Rattle.acceptance.proofs.Start.{start_blocks_are, public_bytes_are}
+use Rattle.acceptance.proofs.Steps.{state}
 
 -- ---- the openings
 
-label_small : (label : ℕ) → IsMachineLabel label → label < 2 ^ 25
+pub label_small : (label : ℕ) → IsMachineLabel label → label < 2 ^ 25
 label_small label (inl e) = omega (arith, e)
 label_small label (inr (inl e)) = omega (arith, e)
 label_small label (inr (inr (inl h))) = omega (arith, h.1)
@@ -86,9 +87,6 @@ pub before_joined : (a b : List HintEvent) (rest : List ℕ) → hints_before (a
 before_joined [] b rest = refl
 before_joined (Word word ∷ a) b rest = ap (λ (bytes : List ℕ). map low_byte word ++ bytes) (before_joined a b rest)
 before_joined (NextFrame ∷ a) b rest = before_joined a b rest
-
-abbrev state : ℕ → Blocks → List ℕ → VmState
-state pc blocks hints = record { pc = pc; blocks = blocks; hints = hints }
 
 -- what segments lead to
 record ChainRuns (x : System) (program : List VmInstr) (m : Leaves) (pc : ℕ) (blocks : Blocks) (hints : List HintEvent) (ss : List Segment) : Type 0 where

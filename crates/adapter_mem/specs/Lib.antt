@@ -3,4 +3,6 @@ pub mod Laws
 pub mod Forms
 pub mod Memory
 pub mod MemoryLaws
+pub mod Select
+pub mod SelectLaws
 pub mod lemmas

@@ -7,6 +7,7 @@ use Rattle.vm_word.specs.Word.{word_of_limbs}
 use Rattle.vm_word.specs.Arithmetic.{word_sum}
 use Rattle.vm_isa.specs.declared.record.StepRecord.{StepRecord}
 use Rattle.vm_isa.specs.Instr.{bit_of}
+use Rattle.vm_isa.specs.Spaces.{MEMORY}
 use Rattle.air_core.specs.declared.event.Event.{Event}
 use Rattle.air_core.specs.Ring.{Ring, field}
 use Rattle.gadget_limbs.specs.Ranges.{range_lines}
@@ -112,6 +113,14 @@ write_touches o space valid block base other m new =
     register_touch o valid 0 base m.base m.base m.first
     ∷ register_touch o valid 1 other m.middle m.middle m.second
     ∷ block_touch o valid 2 space block m.last new m.third
+    ∷ []
+
+-- a register and a block of memory are read, and a register is written where the row says so
+abbrev pub read_touches : {A E : Type 0} → Ring A E → A → A → MemoryColumns A → Limbs A → List (Touch A)
+read_touches o valid block m new =
+    register_touch o valid 0 m.rs1 m.base m.base m.first
+    ∷ block_touch o valid 1 MEMORY block m.middle m.middle m.second
+    ∷ register_touch o (o.times valid m.write) 2 m.rd m.last new m.third
     ∷ []
 
 -- columns of zeros

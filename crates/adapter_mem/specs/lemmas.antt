@@ -3,3 +3,5 @@ pub mod Forms
 pub mod Address
 pub mod Form
 pub mod Writes
+pub mod Reads
+pub mod Select

@@ -8,6 +8,7 @@ mod forms;
 pub mod laws;
 mod memory;
 mod own;
+mod select;
 #[cfg(test)]
 mod tests;
 
@@ -16,6 +17,7 @@ pub use form::{MemoryChip, MemoryForm};
 pub use forms::{AccessForm, form_at, opcode_by, owns, place_in, selected, shift_by, signed_by};
 pub use memory::{
     MemoryColumns, address_constraints, address_filled, emit_address, memory_filled,
-    memory_numbers, pointer_of, write_touches,
+    memory_numbers, pointer_of, read_touches, write_touches,
 };
 pub use own::MemoryCore;
+pub use select::{loaded_word, sign_of, stored_word, top_by};

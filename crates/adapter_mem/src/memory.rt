@@ -5,14 +5,14 @@ ghost use Rattle.vm_isa.specs.Instr.{bit_of};
 ghost use Rattle.air_core.specs.Ring.{field};
 ghost use Rattle.air_core.specs.Sheet.{counted};
 ghost use Rattle.air_core.specs.Sink.{Handed, HandedSome};
-ghost use Rattle.adapter_mem.specs.Memory.{memory_numbers, pointer_of, address_constraints, address_lines, address_filled, memory_filled, write_touches};
+ghost use Rattle.adapter_mem.specs.Memory.{memory_numbers, pointer_of, address_constraints, address_lines, address_filled, memory_filled, read_touches, write_touches};
 
 use crate::{part, pointer, pointer_constraints};
 use air_core::{EventSink, OutOfMemory, element};
 use gadget_limbs::emit_ranges;
-use gadget_time::{Gap, Touch, access_at, block_touch, gap_of, register_read};
+use gadget_time::{Gap, Touch, access_at, block_touch, gap_of, register_read, register_touch};
 use vm_field::{Fe, Limbs};
-use vm_isa::StepRecord;
+use vm_isa::{StepRecord, space};
 
 /// The columns that tables of the memory form have among them: the registers and `write` of the program row, the
 /// immediate, the word of the base, two further words in the order of their accesses, the halves of the address,
@@ -92,6 +92,16 @@ pub fn write_touches(
     let first = register_read(valid, 0, base, &m.base, m.first);
     let second = register_read(valid, 1, other, &m.middle, m.second);
     let third = block_touch(valid, 2, space, block, m.last, new, m.third);
+    [first, second, third]
+}
+
+/// A register and a block of memory are read, and a register is written where the row says so.
+pub fn read_touches(valid: Fe, block: Fe, m: &MemoryColumns, new: Limbs) -> [Touch; 3]
+    ensures { result ≡ read_touches field valid block m.now new }
+{
+    let first = register_read(valid, 0, m.rs1, &m.base, m.first);
+    let second = block_touch(valid, 1, space::MEMORY, block, m.middle, m.middle, m.second);
+    let third = register_touch(valid.mul(m.write), 2, m.rd, m.last, new, m.third);
     [first, second, third]
 }
 

@@ -79,12 +79,7 @@ impl EventSink for Balance {
     ) -> Result<(), OutOfMemory> {
         match ShortTuple::of_elements(numbers) {
             Some(tuple) => self.add_short(bus, side, count, tuple),
-            None => self.add_long(&Event {
-                bus,
-                side,
-                tuple: Tuple::of_elements(numbers),
-                count,
-            }),
+            None => self.add_long_elements(bus, side, count, numbers),
         }
     }
 }
@@ -108,7 +103,13 @@ impl Balance {
     {
         match ShortTuple::of(&event.tuple) {
             Some(tuple) => self.add_short(event.bus, event.side, event.count, tuple),
-            None => self.add_long(event),
+            None => {
+                let place = Place {
+                    bus: event.bus,
+                    tuple: event.tuple,
+                };
+                self.add_long(&place, event.side, event.count)
+            }
         }
     }
 
@@ -133,18 +134,40 @@ impl Balance {
 
     // Apart from the others, so that they don't pay for the room of a long tuple.
     #[inline(never)]
-    fn add_long(&mut self, event: &Event) -> Result<(), OutOfMemory>
+    fn add_long_elements(
+        &mut self,
+        bus: u8,
+        side: Side,
+        count: u32,
+        numbers: &[Fe],
+    ) -> Result<(), OutOfMemory>
         requires room { 1 ≤ room_of self.old }
-        requires long { 8 < length event.now.tuple }
-        ensures ok { OnOk result (Handed Holds room_of self.old self.new (event.now ∷ [])) }
+        requires few { length numbers.now ≤ 50 }
+        requires long { 8 < length numbers.now }
+        ensures ok { OnOk result (Handed Holds room_of self.old self.new (event bus side count numbers.now ∷ [])) }
         ensures err { OnErr result (self.new ≡ self.old) }
     {
         let place = Place {
-            bus: event.bus,
-            tuple: event.tuple,
+            bus,
+            tuple: Tuple::of_elements(numbers),
         };
-        let sums = self.long.entry(place)?.or_insert(NO_SUMS);
-        sums.add(event.side, event.count);
+        self.add_long(&place, side, count)
+    }
+
+    // A place that is there is only looked up: its 204 bytes are moved where it is new.
+    fn add_long(&mut self, place: &Place<Tuple>, side: Side, count: u32) -> Result<(), OutOfMemory>
+        requires room { 1 ≤ room_of self.old }
+        requires long { 8 < length place.now.tuple }
+        ensures ok { OnOk result (Handed Holds room_of self.old self.new (event place.now.bus side count place.now.tuple ∷ [])) }
+        ensures err { OnErr result (self.new ≡ self.old) }
+    {
+        if let Some(sums) = self.long.get_mut(place) {
+            sums.add(side, count);
+        } else {
+            let mut sums = NO_SUMS;
+            sums.add(side, count);
+            self.long.insert(*place, sums)?;
+        }
         self.count += 1;
         Ok(())
     }

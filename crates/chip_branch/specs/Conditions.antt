@@ -1,5 +1,5 @@
 -- The two conditions: whether two words are the same, and which is below the other.
-use Rattle.std.specs.Prelude.{ℕ, suc, zero, ◌/◌, ◌%◌, nat_eq, if◌then◌else◌, List, [], ◌∷◌, ◌++◌}
+use Rattle.std.specs.Prelude.{ℕ, suc, zero, ◌/◌, ◌%◌, nat_eq, if◌then◌else◌, List, [], ◌∷◌}
 use Rattle.std.specs.Int.{from_bool}
 use Rattle.vm_field.specs.Field.{modulus, field_sub, field_mul, field_neg}
 use Rattle.vm_field.specs.declared.limbs.Limbs.{Limbs}
@@ -12,7 +12,6 @@ use Rattle.gadget_limbs.specs.Less.{less_columns, less_cells, less_constraints, 
 use Rattle.gadget_limbs.specs.OrderLaws.{digits_of}
 use Rattle.gadget_limbs.specs.Ranges.{range_lines}
 use Rattle.gadget_time.specs.Form.{IsFormal}
-use Rattle.adapter_regs.specs.Core.{Operands}
 use Rattle.chip_branch.specs.Branch.{Condition, ConditionParts, branch_form, branch_parts}
 
 -- ---- BEQ and BNE: whether the words are the same, and a factor for each limb

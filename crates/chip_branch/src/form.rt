@@ -76,19 +76,13 @@ fn numbers(pc: Fe, op: Fe, rest: &[Fe]) -> [Fe; 12]
     ]
 }
 
-/// The word that a record reads first.
-fn left_word(done: &StepRecord) -> Limbs
-    ensures { result ≡ left_filled done.now }
+/// The words that a record reads.
+fn words(done: &StepRecord) -> (Limbs, Limbs)
+    ensures { (result.0 ≡ left_filled done.now) × (result.1 ≡ right_filled done.now) }
 {
-    let access = access_at(&done.accesses, 0).access;
-    Limbs::of_bytes(&access.old)
-}
-
-fn right_word(done: &StepRecord) -> Limbs
-    ensures { result ≡ right_filled done.now }
-{
-    let access = access_at(&done.accesses, 1).access;
-    Limbs::of_bytes(&access.old)
+    let (first, second) = (access_at(&done.accesses, 0), access_at(&done.accesses, 1));
+    let (left, right) = (first.access.old, second.access.old);
+    (Limbs::of_bytes(&left), Limbs::of_bytes(&right))
 }
 
 /// Writes the registers, the target and both words.
@@ -99,20 +93,10 @@ fn put_words(rest: &mut [Fe], done: &StepRecord)
     ensures so_far { take 11 rest.new ≡ words_filled done.now }
 {
     let i = done.instr;
-    let (left, right) = (left_word(done), right_word(done));
-    let cells = [
-        Fe::of_u16(i.rs1 as u16),
-        Fe::of_u16(i.rs2 as u16),
-        element(i.target % MODULUS),
-        left.x0,
-        left.x1,
-        left.x2,
-        left.x3,
-        right.x0,
-        right.x1,
-        right.x2,
-        right.x3,
-    ];
+    let (b, c) = words(done);
+    let (rs1, rs2) = (Fe::of_u16(i.rs1 as u16), Fe::of_u16(i.rs2 as u16));
+    let to = element(i.target % MODULUS);
+    let cells = [rs1, rs2, to, b.x0, b.x1, b.x2, b.x3, c.x0, c.x1, c.x2, c.x3];
     put(rest, 0, &cells);
 }
 
@@ -131,17 +115,9 @@ fn put_times(rest: &mut [Fe], at: usize, done: &StepRecord)
     requires { length rest.old ≡ at + 6 }
     ensures { rest.new ≡ take at rest.old ++ times_filled done.now }
 {
-    let first = gap_of(&access_at(&done.accesses, 0));
-    let second = gap_of(&access_at(&done.accesses, 1));
-    let cells = [
-        first.before,
-        first.lo,
-        first.hi,
-        second.before,
-        second.lo,
-        second.hi,
-    ];
-    put(rest, at, &cells);
+    let a = gap_of(&access_at(&done.accesses, 0));
+    let b = gap_of(&access_at(&done.accesses, 1));
+    put(rest, at, &[a.before, a.lo, a.hi, b.before, b.lo, b.hi]);
 }
 
 impl<C: Condition> TableForm for BranchForm<C> {
@@ -239,8 +215,9 @@ impl<C: Condition> TableForm for BranchForm<C> {
     fn fill(done: &StepRecord, rest: &mut [Fe]) {
         let own = C::OWN;
         let place = C::place(done.instr.op);
+        let (left, right) = words(done);
         put_words(rest, done);
-        put_own::<C>(rest, place, left_word(done), right_word(done));
+        put_own::<C>(rest, place, left, right);
         put_times(rest, OWN_FROM + own, done);
     }
 }

@@ -2,17 +2,15 @@
 #![tactic(auto)]
 
 mod condition;
-mod equal;
+mod conditions;
 mod form;
 pub mod laws;
-mod order;
 #[cfg(test)]
 mod tests;
 
 pub use condition::Condition;
-pub use equal::EqualCondition;
+pub use conditions::{EqualCondition, OrderCondition};
 pub use form::{BranchChip, BranchForm};
-pub use order::OrderCondition;
 
 /// The table of BEQ and BNE, whose times have HI bits above the lower 16.
 pub type BranchEqAt<const HI: u32> = BranchChip<EqualCondition, HI>;

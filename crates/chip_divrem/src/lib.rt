@@ -2,19 +2,17 @@
 #![tactic(auto)]
 
 mod columns;
-mod constraints;
-mod fill;
+mod division;
 pub mod laws;
-mod lookups;
 #[cfg(test)]
 mod tests;
 
 use adapter_regs::{RegsChip, RegsCore};
 use air_core::{EventSink, OutOfMemory, flag_sum};
 use columns::{new_word, signed};
-use constraints::{CONSTRAINTS, divrem_broken};
+use division::{CONSTRAINTS, divrem_broken, emit_division};
+use gadget_divide::fill_divided;
 use gadget_products::word_of;
-use lookups::emit_division;
 use vm_field::{Fe, Limbs};
 use vm_isa::opcode;
 
@@ -90,7 +88,7 @@ impl RegsCore for DivRemCore {
         right: Limbs,
         sink: &mut S,
     ) -> Result<(), OutOfMemory> {
-        emit_division(flag_sum(flags), signed(flags), own, left, right, sink)
+        emit_division(flag_sum(flags), signed(flags), own, &left, &right, sink)
     }
 
     fn place(op: u8, left: Limbs, right: Limbs) -> usize {
@@ -98,6 +96,6 @@ impl RegsCore for DivRemCore {
     }
 
     fn fill(place: usize, left: Limbs, right: Limbs, new: Limbs, own: &mut [Fe]) {
-        fill::fill(place, word_of(left), word_of(right), own)
+        fill_divided(place == 0 || place == 2, word_of(left), word_of(right), own)
     }
 }

@@ -1,5 +1,4 @@
 pub mod Link
-pub mod JalLui
-pub mod Auipc
-pub mod Jalr
+pub mod LinkLaws
+pub mod Cores
 pub mod lemmas

@@ -1,6 +1,3 @@
-pub mod Word
 pub mod Means
-pub mod Write
-pub mod JalLui
-pub mod Auipc
-pub mod Jalr
+pub mod Form
+pub mod Cores

@@ -1,8 +1,12 @@
 //! What the tables of jumps are. Each law is what a function with an empty body ensures.
 
-ghost use Rattle.chip_jump.specs.Auipc.{AuipcIsFormal};
-ghost use Rattle.chip_jump.specs.JalLui.{JalLuiIsFormal};
-ghost use Rattle.chip_jump.specs.Jalr.{JalrIsFormal};
+ghost use Rattle.chip_jump.specs.Cores.{AuipcIsFormal, JalLuiIsFormal, JalrIsFormal};
+ghost use Rattle.chip_jump.specs.LinkLaws.{ALinkIsAForm};
+
+/// Law: a core with its laws is a form with its laws.
+pub fn a_link_is_a_form()
+    ensures { ALinkIsAForm }
+{}
 
 /// Law: of JAL and LUI the expressions over the columns have the values of the constraints and events.
 pub fn jal_lui_is_formal()

@@ -1,24 +1,18 @@
 //! LB, LH, LW, LBU and LHU: a register gets what is read of a block.
 
-ghost use Rattle.std.specs.Prelude.{◌≡◌, ◌+◌, ◌-◌, ◌/◌, ◌≤◌, ◌&&◌, nat_le, if◌then◌else◌, length, map};
-ghost use Rattle.vm_field.specs.Field.{field_add, field_mul};
-ghost use Rattle.vm_isa.specs.Instr.{bit_of};
+ghost use Rattle.std.specs.Prelude.{◌≡◌, ◌+◌, ◌≤◌, length};
 ghost use Rattle.air_core.specs.Ring.{field};
-ghost use Rattle.adapter_mem.specs.Forms.{selected_from};
-ghost use Rattle.chip_load.specs.Load.{load_forms, read_of, top_by, load_new, load_parts, load_table, load_filled, sign_of};
+ghost use Rattle.chip_load.specs.Load.{load_parts, load_table, load_filled};
 
 use adapter_mem::{
-    AccessForm, MemoryColumns, MemoryCore, address_filled, form_at, memory_filled, opcode_by, owns,
-    place_in, selected, shift_by, signed_by,
+    AccessForm, MemoryColumns, MemoryCore, address_filled, form_at, loaded_word, memory_filled,
+    opcode_by, owns, place_in, read_touches, shift_by, sign_of, signed_by, top_by,
 };
 use air_core::{EventSink, HintWord, OutOfMemory, bus, emit_sent, first_nonzero};
 use gadget_limbs::{sign_constraints, sign_looked_up};
-use gadget_time::{
-    Touch, access_at, block_touch, emit_touches, gap_at, register_read, register_touch,
-    touches_broken,
-};
+use gadget_time::{Touch, access_at, emit_touches, gap_at, touches_broken};
 use vm_field::{Fe, Limbs};
-use vm_isa::{StepRecord, opcode, space};
+use vm_isa::{StepRecord, opcode};
 
 /// The own part of the table of loads. It has no values.
 #[derive(Clone, Copy, Debug)]
@@ -52,107 +46,12 @@ const FORMS: [AccessForm; 13] = [
     form!(opcode::LHU, 2, 2, false),
 ];
 
-/// Limb 0 of what each form reads of the block `x`.
-#[tactic(auto, unfolding(vm_field::specs::Limbs::list_of))]
-fn read_0(x: &Limbs) -> [Fe; 13]
-    ensures { result ≡ map (read_of field x.now 0) load_forms }
-{
-    let (a, b, c, d) = (x.x0, x.x1, x.x2, x.x3);
-    [a, b, c, d, a, c, a, a, b, c, d, a, c]
-}
-
-/// And limb 1.
-#[tactic(auto, unfolding(vm_field::specs::Limbs::list_of))]
-fn read_1(x: &Limbs) -> [Fe; 13]
-    ensures { result ≡ map (read_of field x.now 1) load_forms }
-{
-    let (z, b, d) = (Fe::ZERO, x.x1, x.x3);
-    [z, z, z, z, b, d, b, z, z, z, z, b, d]
-}
-
-/// And limb 2.
-#[tactic(auto, unfolding(vm_field::specs::Limbs::list_of))]
-fn read_2(x: &Limbs) -> [Fe; 13]
-    ensures { result ≡ map (read_of field x.now 2) load_forms }
-{
-    let (z, c) = (Fe::ZERO, x.x2);
-    [z, z, z, z, z, z, c, z, z, z, z, z, z]
-}
-
-/// And limb 3.
-#[tactic(auto, unfolding(vm_field::specs::Limbs::list_of))]
-fn read_3(x: &Limbs) -> [Fe; 13]
-    ensures { result ≡ map (read_of field x.now 3) load_forms }
-{
-    let (z, d) = (Fe::ZERO, x.x3);
-    [z, z, z, z, z, z, d, z, z, z, z, z, z]
-}
-
-/// The sum of the flags of LB, which have the sign from limb 1 on.
-fn bytes(flags: &[Fe]) -> Fe
-    requires { length flags.now ≡ 13 }
-    ensures { result ≡ selected_from field 0 flags.now (map (λ f. bit_of (f.signed && nat_le f.width 1)) load_forms) }
-{
-    let (z, one) = (Fe::ZERO, Fe::ONE);
-    selected(flags, &[one, one, one, one, z, z, z, z, z, z, z, z, z])
-}
-
-/// What is read of one limb, and the sign so many times.
-fn limb(flags: &[Fe], values: &[Fe; 13], times: Fe, sign: Fe) -> Fe
-    requires { length flags.now ≡ 13 }
-    ensures { result ≡ field_add (selected_from field 0 flags.now values.now) (field_mul times (field_mul 255 sign)) }
-{
-    selected(flags, values).add(times.mul(Fe::of_u16(255).mul(sign)))
-}
-
-/// The word that is written.
-fn new_word(flags: &[Fe], x: &Limbs, sign: Fe) -> Limbs
-    requires { length flags.now ≡ 13 }
-    ensures { result ≡ load_new field flags.now x.now sign }
-{
-    Limbs {
-        x0: limb(flags, &read_0(x), Fe::ZERO, sign),
-        x1: limb(flags, &read_1(x), bytes(flags), sign),
-        x2: limb(flags, &read_2(x), Fe::ONE, sign),
-        x3: limb(flags, &read_3(x), Fe::ONE, sign),
-    }
-}
-
-/// The byte that has the sign, where the form has one.
-#[tactic(auto, unfolding(vm_field::specs::Limbs::list_of))]
-fn top(flags: &[Fe], x: &Limbs) -> Fe
-    requires { length flags.now ≡ 13 }
-    ensures { result ≡ top_by field flags.now x.now }
-{
-    let (z, a, b, c, d) = (Fe::ZERO, x.x0, x.x1, x.x2, x.x3);
-    selected(flags, &[a, b, c, d, b, d, z, z, z, z, z, z, z])
-}
-
-/// A register and a block are read, and a register is written where the row says so.
 fn touches(valid: Fe, block: Fe, flags: &[Fe], m: &MemoryColumns) -> [Touch; 3]
     requires { length flags.now ≡ 13 }
     ensures { result ≡ (load_parts field).touches valid block flags.now m.now }
 {
-    let new = new_word(flags, &m.middle, m.sign);
-    let first = register_read(valid, 0, m.rs1, &m.base, m.first);
-    let second = block_touch(valid, 1, space::MEMORY, block, m.middle, m.middle, m.second);
-    let third = register_touch(valid.mul(m.write), 2, m.rd, m.last, new, m.third);
-    [first, second, third]
-}
-
-/// The top bit of the byte that has the sign.
-fn sign_of(form: &AccessForm, block: &[u8; 4]) -> Fe
-    ensures { result ≡ sign_of form.now block.now }
-{
-    if form.signed {
-        let place = (form.shift as usize + form.width as usize).saturating_sub(1);
-        match block.get(place) {
-            Some(byte) => Fe::of_u16((*byte / 128) as u16),
-            None => Fe::ZERO,
-        }
-    } else {
-        Fe::ZERO
-    }
+    let new = loaded_word(&FORMS, flags, &m.middle, m.sign);
+    read_touches(valid, block, m, new)
 }
 
 /// The columns of a step.
@@ -275,7 +174,7 @@ impl MemoryCore for LoadCore {
         m: &MemoryColumns,
         sink: &mut S,
     ) -> Result<(), OutOfMemory> {
-        let looked_up = sign_looked_up(m.sign, top(flags, &m.middle));
+        let looked_up = sign_looked_up(m.sign, top_by(&FORMS, flags, &m.middle));
         emit_sent(bus::XOR, signed_by(&FORMS, flags), &looked_up, sink)
     }
 

@@ -1,8 +1,8 @@
 -- SB, SH and SW: the low bytes of a register's word are put into the block at the sum of another register's word and
 -- an immediate.
-use Rattle.std.specs.Prelude.{ℕ, ◌+◌, ◌-◌, false, ◌&&◌, nat_lt, nat_le, if◌then◌else◌, List, [], ◌∷◌, ◌++◌}
+use Rattle.std.specs.Prelude.{ℕ, false, List, [], ◌∷◌, ◌++◌}
 use Rattle.vm_field.specs.declared.limbs.Limbs.{Limbs}
-use Rattle.vm_field.specs.Limbs.{list_of, limbs_by}
+use Rattle.vm_field.specs.Limbs.{limbs_by}
 use Rattle.vm_isa.specs.declared.record.StepRecord.{StepRecord}
 use Rattle.vm_isa.specs.Opcodes.{SB, SH, SW}
 use Rattle.vm_isa.specs.Spaces.{MEMORY}
@@ -12,8 +12,9 @@ use Rattle.gadget_time.specs.Access.{gap_by, gap_cells}
 use Rattle.gadget_time.specs.Form.{IsFormal}
 use Rattle.adapter_mem.specs.declared.forms.AccessForm.{AccessForm}
 use Rattle.adapter_mem.specs.declared.memory.MemoryColumns.{MemoryColumns}
-use Rattle.adapter_mem.specs.Forms.{access_form, by_form}
+use Rattle.adapter_mem.specs.Forms.{access_form}
 use Rattle.adapter_mem.specs.Memory.{MemoryParts, MemoryTable, memory_form, memory_parts, memory_filled, memory_cells, write_touches}
+use Rattle.adapter_mem.specs.Select.{stored_word}
 
 -- SB at each place of a block, SH at two, SW
 abbrev pub store_forms : List AccessForm
@@ -21,15 +22,9 @@ store_forms =
     access_form SB 0 1 false ∷ access_form SB 1 1 false ∷ access_form SB 2 1 false ∷ access_form SB 3 1 false
     ∷ access_form SH 0 2 false ∷ access_form SH 2 2 false ∷ access_form SW 0 4 false ∷ []
 
--- limb j of what a form stores: the word's from the shift on, as many as the width, and the old block's
-abbrev pub stored : {A E : Type 0} → Ring A E → Limbs A → Limbs A → ℕ → AccessForm → A
-stored o word block j f = if nat_le f.shift j && nat_lt j (f.shift + f.width) then cell o (list_of word) (j - f.shift) else cell o (list_of block) j
-
-unfoldable pub store_limb : {A E : Type 0} → Ring A E → List A → MemoryColumns A → ℕ → A
-store_limb o flags m j = by_form o store_forms flags (stored o m.middle m.last j)
-
+-- the block that is left
 abbrev pub store_new : {A E : Type 0} → Ring A E → List A → MemoryColumns A → Limbs A
-store_new o flags m = record { x0 = store_limb o flags m 0; x1 = store_limb o flags m 1; x2 = store_limb o flags m 2; x3 = store_limb o flags m 3 }
+store_new o flags m = stored_word o store_forms flags m.middle m.last
 
 -- behind the flags: rs1, rs2, the immediate, the base, the word, the old block, the halves of the address, and the
 -- times of the accesses

@@ -1,12 +1,12 @@
 //! SB, SH and SW: the low bytes of a register's word are put into a block.
 
-ghost use Rattle.std.specs.Prelude.{◌≡◌, ◌+◌, ◌≤◌, length, map};
+ghost use Rattle.std.specs.Prelude.{◌≡◌, ◌+◌, ◌≤◌, length};
 ghost use Rattle.air_core.specs.Ring.{field};
-ghost use Rattle.chip_store.specs.Store.{store_forms, stored, store_new, store_parts, store_table, store_filled};
+ghost use Rattle.chip_store.specs.Store.{store_parts, store_table, store_filled};
 
 use adapter_mem::{
     AccessForm, MemoryColumns, MemoryCore, address_filled, memory_filled, opcode_by, owns,
-    place_in, selected, shift_by, write_touches,
+    place_in, shift_by, stored_word, write_touches,
 };
 use air_core::{EventSink, HintWord, OutOfMemory};
 use gadget_time::{Touch, emit_touches, gap_at, touches_broken};
@@ -39,58 +39,11 @@ const FORMS: [AccessForm; 7] = [
     form!(opcode::SW, 0, 4),
 ];
 
-/// Limb 0 of what each form stores of the word `c` into the block `x`.
-#[tactic(auto, unfolding(vm_field::specs::Limbs::list_of))]
-fn stored_0(c: &Limbs, x: &Limbs) -> [Fe; 7]
-    ensures { result ≡ map (stored field c.now x.now 0) store_forms }
-{
-    [c.x0, x.x0, x.x0, x.x0, c.x0, x.x0, c.x0]
-}
-
-/// And limb 1.
-#[tactic(auto, unfolding(vm_field::specs::Limbs::list_of))]
-fn stored_1(c: &Limbs, x: &Limbs) -> [Fe; 7]
-    ensures { result ≡ map (stored field c.now x.now 1) store_forms }
-{
-    [x.x1, c.x0, x.x1, x.x1, c.x1, x.x1, c.x1]
-}
-
-/// And limb 2.
-#[tactic(auto, unfolding(vm_field::specs::Limbs::list_of))]
-fn stored_2(c: &Limbs, x: &Limbs) -> [Fe; 7]
-    ensures { result ≡ map (stored field c.now x.now 2) store_forms }
-{
-    [x.x2, x.x2, c.x0, x.x2, x.x2, c.x0, c.x2]
-}
-
-/// And limb 3.
-#[tactic(auto, unfolding(vm_field::specs::Limbs::list_of))]
-fn stored_3(c: &Limbs, x: &Limbs) -> [Fe; 7]
-    ensures { result ≡ map (stored field c.now x.now 3) store_forms }
-{
-    [x.x3, x.x3, x.x3, c.x0, x.x3, c.x1, c.x3]
-}
-
-/// The word that is left in the block.
-#[tactic(auto, unfolding(crate::specs::Store::store_limb))]
-fn new_word(flags: &[Fe], m: &MemoryColumns) -> Limbs
-    requires { length flags.now ≡ 7 }
-    ensures { result ≡ store_new field flags.now m.now }
-{
-    let (word, block) = (m.middle, m.last);
-    Limbs {
-        x0: selected(flags, &stored_0(&word, &block)),
-        x1: selected(flags, &stored_1(&word, &block)),
-        x2: selected(flags, &stored_2(&word, &block)),
-        x3: selected(flags, &stored_3(&word, &block)),
-    }
-}
-
 fn touches(valid: Fe, block: Fe, flags: &[Fe], m: &MemoryColumns) -> [Touch; 3]
     requires { length flags.now ≡ 7 }
     ensures { result ≡ (store_parts field).touches valid block flags.now m.now }
 {
-    let new = new_word(flags, m);
+    let new = stored_word(&FORMS, flags, &m.middle, &m.last);
     write_touches(space::MEMORY, valid, block, m.rs1, m.rs2, m, new)
 }
 

@@ -1,5 +1,5 @@
 -- From the tests of the loads to the image.
-use Rattle.std.proofs.Common.{◌≡◌, ◌≢◌, ℕ, ◌+◌, ◌<◌, ◌≤◌, ◌^◌, ◌↔◌, Bool, true, false, cond, List, [], ◌∷◌, length, get_or, map, filter, nat_lt, Any, All, IsPermutation, None, refl, sym, ap, ◌∙◌, arith, inl, inr}
+use Rattle.std.proofs.Common.{◌≡◌, ℕ, ◌+◌, ◌<◌, ◌≤◌, ◌^◌, ◌↔◌, Bool, true, false, cond, List, [], ◌∷◌, length, get_or, map, filter, nat_lt, Any, All, IsPermutation, None, refl, sym, ap, ◌∙◌, arith, inl, inr}
 use Rattle.std.proofs.lemmas.Bool.{cases_lt}
 use Rattle.std.proofs.lemmas.Bool.Decides.{nat_tests}
 use Rattle.std.specs.List.Sorted.{IsNonDecreasingBy}
@@ -50,24 +50,6 @@ none_more n bytes refusal at before none other low =
       | inl below ↦ before other below
       | inr above ↦ let same = place_is_one refusal other (omega arith) in λ cause. none (rw (← same) at cause)
     ]
-
-pub place_below : (refusal : ImageError) → refusal ≢ OutOfMemory → place refusal < 15
-place_below Short h = omega arith
-place_below Magic h = omega arith
-place_below Class h = omega arith
-place_below Order h = omega arith
-place_below FileType h = omega arith
-place_below Machine h = omega arith
-place_below Compressed h = omega arith
-place_below HeaderSize h = omega arith
-place_below HeaderTable h = omega arith
-place_below SegmentSize h = omega arith
-place_below Truncated h = omega arith
-place_below Range h = omega arith
-place_below Overlap h = omega arith
-place_below TextSize h = omega arith
-place_below Entry h = omega arith
-place_below OutOfMemory h = absurd (h refl)
 
 -- a file with no cause in the table is accepted
 pub accepted : (bytes : List ℕ) → NoneBefore 15 bytes → (refusal : ImageError) → ¬ Cause refusal bytes

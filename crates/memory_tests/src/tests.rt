@@ -14,47 +14,69 @@ use vm_field::Fe;
 use vm_isa::opcode;
 use vm_word::limbs;
 
-/// The flag of an opcode at a place of a block, and the word that it leaves.
-struct Case {
-    op: u8,
-    shift: u32,
-    new: u32,
+/// One cell of a good row set to a number, and what it breaks.
+#[derive(Clone, Copy)]
+struct Change {
+    column: usize,
+    number: u16,
+    refusal: Refusal,
 }
 
-macro_rules! case {
-    ($op:expr, $shift:expr, $new:expr) => {
-        Case {
-            op: $op,
-            shift: $shift,
-            new: $new,
+macro_rules! change {
+    ($column:expr, $number:expr, $refusal:expr) => {
+        Change {
+            column: $column,
+            number: $number,
+            refusal: $refusal,
         }
     };
 }
 
+/// The flag of an opcode at a place of a block, the word that it leaves, and what breaks its row at the last block.
+struct Case {
+    op: u8,
+    shift: u32,
+    new: u32,
+    change: Change,
+}
+
+macro_rules! case {
+    ($op:expr, $shift:expr, $new:expr, $column:expr, $number:expr, $refusal:expr) => {
+        Case {
+            op: $op,
+            shift: $shift,
+            new: $new,
+            change: change!($column, $number, $refusal),
+        }
+    };
+}
+
+/// A byte of the block that has a sign, columns 26 to 29, gets the other top bit; what has none gets one, column 36.
 const LOADS: [Case; 13] = [
-    case!(opcode::LB, 0, 0xFFFF_FF81),
-    case!(opcode::LB, 1, 0x72),
-    case!(opcode::LB, 2, 0xFFFF_FFC3),
-    case!(opcode::LB, 3, 0xFFFF_FF84),
-    case!(opcode::LH, 0, 0x7281),
-    case!(opcode::LH, 2, 0xFFFF_84C3),
-    case!(opcode::LW, 0, 0x84C3_7281),
-    case!(opcode::LBU, 0, 0x81),
-    case!(opcode::LBU, 1, 0x72),
-    case!(opcode::LBU, 2, 0xC3),
-    case!(opcode::LBU, 3, 0x84),
-    case!(opcode::LHU, 0, 0x7281),
-    case!(opcode::LHU, 2, 0x84C3),
+    case!(opcode::LB, 0, 0xFFFF_FF81, 26, 0x01, Refusal::Lookup(17)),
+    case!(opcode::LB, 1, 0x72, 27, 0xF2, Refusal::Lookup(17)),
+    case!(opcode::LB, 2, 0xFFFF_FFC3, 28, 0x43, Refusal::Lookup(17)),
+    case!(opcode::LB, 3, 0xFFFF_FF84, 29, 0x04, Refusal::Lookup(17)),
+    case!(opcode::LH, 0, 0x7281, 27, 0xF2, Refusal::Lookup(17)),
+    case!(opcode::LH, 2, 0xFFFF_84C3, 29, 0x04, Refusal::Lookup(17)),
+    case!(opcode::LW, 0, 0x84C3_7281, 36, 1, Refusal::Constraint(17)),
+    case!(opcode::LBU, 0, 0x81, 36, 1, Refusal::Constraint(17)),
+    case!(opcode::LBU, 1, 0x72, 36, 1, Refusal::Constraint(17)),
+    case!(opcode::LBU, 2, 0xC3, 36, 1, Refusal::Constraint(17)),
+    case!(opcode::LBU, 3, 0x84, 36, 1, Refusal::Constraint(17)),
+    case!(opcode::LHU, 0, 0x7281, 36, 1, Refusal::Constraint(17)),
+    case!(opcode::LHU, 2, 0x84C3, 36, 1, Refusal::Constraint(17)),
 ];
 
+/// The base, the low half of the address, the immediate, the high half, and the time before of each access.
 const STORES: [Case; 7] = [
-    case!(opcode::SB, 0, 0x84C3_72D4),
-    case!(opcode::SB, 1, 0x84C3_D481),
-    case!(opcode::SB, 2, 0x84D4_7281),
-    case!(opcode::SB, 3, 0xD4C3_7281),
-    case!(opcode::SH, 0, 0x84C3_C3D4),
-    case!(opcode::SH, 2, 0xC3D4_7281),
-    case!(opcode::SW, 0, 0xA1B2_C3D4),
+    case!(opcode::SB, 0, 0x84C3_72D4, 15, 1, Refusal::Constraint(8)),
+    case!(opcode::SB, 1, 0x84C3_D481, 27, 9, Refusal::Constraint(8)),
+    case!(opcode::SB, 2, 0x84D4_7281, 14, 0xFE, Refusal::Constraint(9)),
+    case!(opcode::SB, 3, 0xD4C3_7281, 28, 8190, Refusal::Constraint(9)),
+    case!(opcode::SH, 0, 0x84C3_C3D4, 29, 91, Refusal::Constraint(10)),
+    case!(opcode::SH, 2, 0xC3D4_7281, 32, 91, Refusal::Constraint(11)),
+    case!(opcode::SW, 0, 0xA1B2_C3D4, 35, 91, Refusal::Constraint(12)),
 ];
 
 const BLOCK: u32 = 0x84C3_7281;
@@ -207,23 +229,6 @@ fn hints_and_public_words(rt: HostRuntime) -> Result<(), Fail> {
     Ok(())
 }
 
-/// One cell of a good row set to a number, and what it breaks.
-struct Change {
-    column: usize,
-    number: u16,
-    refusal: Refusal,
-}
-
-macro_rules! change {
-    ($column:expr, $number:expr, $refusal:expr) => {
-        Change {
-            column: $column,
-            number: $number,
-            refusal: $refusal,
-        }
-    };
-}
-
 /// Of LB3 at the last byte.
 const OF_LOAD: [Change; 9] = [
     change!(2, 1, Refusal::Constraint(13)),
@@ -266,12 +271,51 @@ const OF_REVEAL: [Change; 6] = [
     change!(29, 89, Refusal::Constraint(6)),
 ];
 
+/// A flag that is 2: the constraint at its place breaks. No table has more than 64 flags.
+fn twice(flag: usize) -> Change {
+    let place = flag.min(64);
+    change!(2 + place, 2, Refusal::Constraint(place as u32))
+}
+
 fn set(row: &mut [Fe], change: &Change)
     ensures { length row.new ≡ length row.old }
 {
     if change.column < row.len() {
         row[change.column] = Fe::of_u16(change.number);
     }
+}
+
+/// The row of each flag breaks its flag's own constraint where that flag is 2, and what the table says of its cell.
+#[test]
+fn one_changed_cell_of_each_flag(rt: HostRuntime) -> Result<(), Fail> {
+    let (base, last) = (0x2000_0000, 0xFFFF_FFFC_u32);
+    for (flag, case) in LOADS.iter().enumerate() {
+        let imm = last.wrapping_add(case.shift);
+        let done = load(rt.alloc(), case.op, true, base, imm, BLOCK, case.new)?;
+        for change in &[twice(flag), case.change] {
+            let mut row = [Fe::ZERO; 46];
+            assert_eq!(rt; put_row::<LoadCore>(&done, &mut row), Some(flag));
+            set(&mut row, change);
+            let (refusal, _) = said(rt.alloc(), &LoadChip::new(), &row)?;
+            assert_eq!(rt; refusal, change.refusal, "load {flag}");
+        }
+    }
+    for (flag, case) in STORES.iter().enumerate() {
+        let imm = last.wrapping_add(case.shift);
+        let words = Words {
+            old: BLOCK,
+            new: case.new,
+        };
+        let done = store(rt.alloc(), case.op, base, imm, WORD, words)?;
+        for change in &[twice(flag), case.change] {
+            let mut row = [Fe::ZERO; 38];
+            assert_eq!(rt; put_row::<StoreCore>(&done, &mut row), Some(flag));
+            set(&mut row, change);
+            let (refusal, _) = said(rt.alloc(), &StoreChip::new(), &row)?;
+            assert_eq!(rt; refusal, change.refusal, "store {flag}");
+        }
+    }
+    Ok(())
 }
 
 #[test]

@@ -1,6 +1,5 @@
 -- The part of rising labels that lies below a node, and how it parts at the two children.
 use Rattle.std.proofs.Common.{◌≡◌, ℕ, zero, suc, ◌+◌, ◌-◌, ◌*◌, ◌^◌, ◌<◌, ◌≤◌, true, false, eqb, List, [], ◌∷◌, length, map, get_or, slice_index, refl, sym, ap, ◌∙◌, subst, ⊎_elim, arith}
-use Rattle.std.specs.List.{Contains}
 use Rattle.std.specs.List.Sorted.{IsStrictlyIncreasing}
 use Rattle.std.proofs.Math.Nat.{pow-suc}
 use Rattle.std.proofs.lemmas.Nat.{pow_pos}
@@ -145,14 +144,6 @@ labelled_bytes-place label side none (p ∷ ps) (suc k) d rising h =
     cond-false (eqb (label p) (label q)) (side p) (labelled_bytes label side none ps (label q)) (ne_eqb (label p) (label q) (λ e. absurd (omega arith)))
     ∙ labelled_bytes-place label side none ps k d (rising-tail (label p) (map label ps) rising) in_list
 
--- where no item has the label
-pub labelled_bytes-none : {P : Type 0} (label : P → ℕ) (side : P → List ℕ) (none : List ℕ) (ps : List P) (j : ℕ) → (Contains (map label ps) j → ⊥) → labelled_bytes label side none ps j ≡ none
-unfolding labelled_bytes
-labelled_bytes-none label side none [] j h = refl
-labelled_bytes-none label side none (p ∷ ps) j h =
-    cond-false (eqb (label p) j) (side p) (labelled_bytes label side none ps j) (ne_eqb (label p) j (λ e. h (zero, omega arith, e)))
-    ∙ labelled_bytes-none label side none ps j (λ has. h (suc has.0, omega (arith, has.1), has.2))
-
 pub length-labels_of : (pages : List Touched) → length (labels_of pages) ≡ length pages
 unfolding labels_of
 length-labels_of pages = length-map pages label_of
@@ -181,14 +172,3 @@ walk-page_at side pages l i from to d s e rising part h =
     ap sha256 (sym (part-item label_of side [] pages i from to d rising part' h))
     ∙ sym (walk-page labels bytes i s (part-some labels 0 i from to part' h))
     ∙ ap (λ n. (walk labels bytes n i s).digest) (sym e)
-
--- two partings of all labels give the part below any node
-pub part-between : (labels : List ℕ) (l i n low high from to : ℕ) → n ≡ length labels → low ≡ i * 2 ^ l → high ≡ (i + 1) * 2 ^ l → IsStrictlyIncreasing labels → IsParting labels 0 n low from → IsParting labels from n high to → IsSpan labels l i from to
-part-between labels l i n low high from to e is_low is_high rising first second = record {
-  ordered = second.low;
-  in_list = omega (arith, second.high);
-  before = λ k h. omega (arith, first.below k (omega arith) h);
-  first = λ k a b. omega (arith, reached-all labels 0 n low from k rising first (omega arith) a (omega (arith, second.high)));
-  last = λ k a b. omega (arith, second.below k a b);
-  behind = λ k a b. omega (arith, reached-all labels from n high to k rising second (omega arith) a (omega arith));
-}

@@ -1,7 +1,6 @@
 -- The leaves at the start, leaf by leaf and load by load.
-use Rattle.std.proofs.Common.{◌≡◌, ℕ, zero, suc, ◌+◌, ◌-◌, ◌*◌, ◌/◌, ◌%◌, ◌^◌, ◌<◌, ◌≤◌, ◌⊎◌, inl, inr, ⊎_elim, Bool, true, false, eqb, List, [], ◌∷◌, map, replicate, length, get_or, drop, refl, sym, ap, ◌∙◌, subst, arith}
-use Rattle.std.specs.Prelude.{Some, None, slice_get, not}
-use Rattle.std.specs.Cmp.Lexicographic.{pointwise, same_text}
+use Rattle.std.proofs.Common.{◌≡◌, ℕ, zero, suc, ◌+◌, ◌-◌, ◌*◌, ◌/◌, ◌%◌, ◌^◌, ◌<◌, ◌≤◌, ◌⊎◌, inl, inr, ⊎_elim, false, eqb, List, [], ◌∷◌, map, replicate, length, get_or, drop, refl, sym, ap, ◌∙◌, subst, arith}
+use Rattle.std.specs.Prelude.{Some, None, slice_get}
 use Rattle.std.specs.List.{range_with_len}
 use Rattle.std.proofs.Math.Nat.{pow-suc}
 use Rattle.std.proofs.lemmas.Bool.{cases_eq, cases_lt, cond-true, cond-false, eq-eqb, ne_eqb}
@@ -28,12 +27,6 @@ pub start_map-out : (image : Loaded) (label : ℕ) → (label / 8388608 ≡ 2 �
 unfolding start_map
 start_map-out image label h = cond-false (eqb (label / 8388608) 2) _ _ (ne_eqb (label / 8388608) 2 h)
 
--- the leaf of memory at a label
-pub start_map-leaf : (image : Loaded) (leaf : ℕ) → leaf < 8388608 → start_map image (16777216 + leaf) ≡ memory_leaf image leaf
-start_map-leaf image leaf h =
-    let at : (16777216 + leaf) % 8388608 ≡ leaf = omega arith in
-    start_map-in image (16777216 + leaf) (omega arith) ∙ ap (memory_leaf image) at
-
 length-memory_leaf : (image : Loaded) (leaf : ℕ) → length (memory_leaf image leaf) ≡ 64
 unfolding memory_leaf
 length-memory_leaf image leaf = length-map (range_with_len 0 64) (λ k. byte_of image (64 * leaf + k)) ∙ length-range_with_len 0 64
@@ -44,14 +37,6 @@ length-start_map image label =
     (λ (inside : label / 8388608 ≡ 2). ap length (start_map-in image label inside) ∙ length-memory_leaf image (label % 8388608))
     (λ (outside : label / 8388608 ≡ 2 → ⊥). ap length (start_map-out image label outside))
     (cases_eq (label / 8388608) 2)
-
--- a test of lists that says that they don't differ
-pub not_different : (xs ys : List ℕ) (t : Bool) → t ≡ not (pointwise eqb xs ys) → t ≡ false → xs ≡ ys
-not_different xs ys t is none = same_text xs ys (by_cases (pointwise eqb xs ys) (sym is ∙ none))
-  where
-    by_cases : (b : Bool) → not b ≡ false → true ≡ b
-    by_cases true h = refl
-    by_cases false h = absurd (cc)
 
 -- a leaf outside of a load's has none of its bytes
 gives_none : (load : Load) (a : ℕ) → (a < load.address) ⊎ (load.address + length load.bytes ≤ a) → gives load a ≡ false

@@ -1,9 +1,10 @@
--- Records that a machine without hints took.
-use Rattle.std.specs.Prelude.{◌≡◌, ℕ, ◌+◌, ◌*◌, ◌≤◌, true, List, [], length}
+-- Records that a machine took.
+use Rattle.std.specs.Prelude.{◌≡◌, ℕ, ◌+◌, ◌*◌, ◌≤◌, true, List, length}
 use Rattle.std.specs.List.{AllByRecursion}
 use Rattle.vm_isa.specs.declared.instr.VmInstr.{VmInstr}
 use Rattle.vm_isa.specs.declared.record.StepRecord.{StepRecord}
 use Rattle.vm_isa.specs.Means.{Fillable}
+use Rattle.vm_isa.specs.Words.{IsBytes}
 use Rattle.air_core.specs.System.{is_owned}
 use Rattle.vm_config.specs.Config.{full}
 use Rattle.vm_executor.specs.Machine.{Machine, Since}
@@ -15,4 +16,4 @@ pub record TookSteps (program : List VmInstr) (pc : ℕ) (steps : ℕ) (done : L
   pub fillable : AllByRecursion (Fillable 24) done
   pub owned : AllByRecursion (λ d. is_owned (full 8).parts d.instr.op ≡ true) done
   pub in_time : m.time ≤ 1 + 26 * steps
-  pub none : m.hints ≡ []
+  pub bytes : IsBytes m.hints

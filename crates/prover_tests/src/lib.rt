@@ -2,5 +2,7 @@
 #![tactic(auto)]
 
 #[cfg(test)]
+mod each_instruction;
+#[cfg(test)]
 mod one_addition;
 pub mod records;

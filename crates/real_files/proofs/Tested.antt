@@ -8,7 +8,6 @@ use Rattle.air_core.specs.declared.event.Event.{Event}
 use Rattle.air_core.specs.declared.event.Side.{Side}
 use Rattle.air_core.specs.declared.event.Side.TheVariants.{Send, Receive}
 use Rattle.air_core.specs.Balance.{Balanced, IsEven, total}
-use Rattle.air_core.specs.Sheet.{AllZero}
 use Rattle.air_core.proofs.BalanceLemmas.{member_of_total}
 
 unfoldable pub each_below : ℕ → List ℕ → Bool
@@ -19,15 +18,6 @@ pub all_below : (limit : ℕ) (xs : List ℕ) → each_below limit xs ≡ true �
 unfolding each_below
 all_below limit [] h = tt
 all_below limit (x ∷ xs) h = let parts = and_parts (nat_lt x limit) (each_below limit xs) h in (ltb-true x limit parts.0, all_below limit xs parts.1)
-
-unfoldable pub each_zero : List ℕ → Bool
-each_zero [] = true
-each_zero (x ∷ xs) = nat_eq x 0 && each_zero xs
-
-pub all_zero : (xs : List ℕ) → each_zero xs ≡ true → AllZero xs
-unfolding each_zero
-all_zero [] h = tt
-all_zero (x ∷ xs) h = let parts = and_parts (nat_eq x 0) (each_zero xs) h in (eqb-true x 0 parts.0, all_zero xs parts.1)
 
 -- at each of these events the sums are the same
 unfoldable pub each_even : List Event → List Event → Bool

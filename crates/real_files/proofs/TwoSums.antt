@@ -20,6 +20,7 @@ use Rattle.vm_trace.specs.File.{Segment, File}
 use Rattle.vm_trace.specs.Limits.{limits_of}
 use Rattle.vm_trace.specs.Pages.{IsLeaf, IsWhole}
 use Rattle.vm_transpile.specs.Program.{program_of}
+use Rattle.vm_transpile.proofs.Starts.{zero_bytes}
 use Rattle.air_core.specs.Sheet.{IsRow}
 use Rattle.chip_alu.specs.Alu.{alu_sheet}
 use Rattle.page_tree.specs.Tree.{Leaves, root, replaced}
@@ -34,7 +35,7 @@ use Rattle.page_tree.proofs.StartLemmas.{start_map-out}
 use Rattle.acceptance.specs.Accepts.{Accepts, ClaimHolds, IsPublic, shape_of}
 use Rattle.acceptance.specs.Holds.{IsMachinePage, SegmentHolds}
 use Rattle.acceptance.proofs.CanonicalTrees.{siblings_canonical, path_canonical}
-use Rattle.acceptance.proofs.Example.{root_canonical, few_siblings, path_levels, path_digests_of, few_rows, end_in_range, zeros_are_bytes}
+use Rattle.acceptance.proofs.Example.{root_canonical, few_siblings, path_levels, path_digests_of, few_rows, end_in_range}
 use Rattle.real_files.specs.Laws.{TwoSumsAreAccepted}
 use Rattle.real_files.specs.TwoSums.{BeginsWithSums, two_tables, first_sum, second_sum, first_row, second_row, nothing_written, five_written, six_written, first_touched, second_touched, leaves_between, leaves_behind, entry, first_segment, second_segment, two_sums_file}
 use Rattle.real_files.proofs.Balances.{first_balanced, second_balanced}
@@ -177,7 +178,7 @@ two_sums_accepted elf image first second code has begins ends =
         segments = (first_segment_canonical image first begins.first_stands, (second_segment_canonical image second begins.second_stands, tt));
         claim = record {
           code = end.byte;
-          public_bytes = record { size = refl; bytes = zeros_are_bytes 64 };
+          public_bytes = record { size = refl; bytes = zero_bytes 64 };
           levels = path_levels (leaves_behind image);
           path = path_canonical (leaves_behind image) PUBLIC_LABEL;
         };
@@ -190,7 +191,7 @@ two_sums_accepted elf image first second code has begins ends =
         ends = (refl, refl);
         terminates = ends;
         public = record {
-          whole = record { size = refl; bytes = zeros_are_bytes 64 };
+          whole = record { size = refl; bytes = zero_bytes 64 };
           levels = path_levels (leaves_behind image);
           digests = path_digests_of (leaves_behind image) PUBLIC_LABEL;
           leads = subst (λ (leaf : List ℕ). climb PUBLIC_LABEL leaf (path_of (leaves_behind image) PUBLIC_LABEL) ≡ root (leaves_behind image))

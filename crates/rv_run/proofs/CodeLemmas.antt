@@ -9,10 +9,7 @@ use Rattle.elf_image.proofs.Searches.{placed, not_placed}
 use Rattle.rv_decode.specs.declared.instr.Instr.{Instr}
 use Rattle.rv_decode.specs.Listing.{decode_of}
 use Rattle.rv_decode.proofs.ListingLemmas.{IfSome-decode_of}
-use Rattle.rv_run.specs.declared.outcome.Cause.TheVariants.{NotText, Undecoded}
 use Rattle.rv_run.specs.Code.{decoded, fetched, HasRanges}
-use Rattle.rv_run.specs.Machine.{Machine}
-use Rattle.rv_run.specs.Step.{step_at_word, step_by, trap_at}
 
 module _ (text : List TextWord) (pc : ℕ) (word : Option ℕ) where
   -- a place is within the text
@@ -33,23 +30,6 @@ module _ (text : List TextWord) (pc : ℕ) (word : Option ℕ) where
 pub fetched_ranges : (word : Option ℕ) → HasRanges (fetched word)
 fetched_ranges None = tt
 fetched_ranges (Some w) = IfSome-decode_of w
-
--- the step at a word is that at what was fetched
-pub step_fetched : (m : Machine) (word : Option ℕ) (instr : Instr) → Some (Some instr) ≡ fetched word → step_at_word m word ≡ step_by m instr
-step_fetched m None instr e = absurd (cc)
-step_fetched m (Some w) instr e =
-    let is : decode_of w ≡ Some instr = cc in
-    rw is refl
-
-pub step_undecoded : (m : Machine) (word : Option ℕ) → Some None ≡ fetched word → step_at_word m word ≡ trap_at m Undecoded
-step_undecoded m None e = absurd (cc)
-step_undecoded m (Some w) e =
-    let is : decode_of w ≡ None = cc in
-    rw is refl
-
-pub step_not_text : (m : Machine) (word : Option ℕ) → None ≡ fetched word → step_at_word m word ≡ trap_at m NotText
-step_not_text m None e = refl
-step_not_text m (Some w) e = absurd (cc)
 
 pub decoded_more : (text : List TextWord) (k : ℕ) (lines : List (Option Instr)) → lines ≡ map decoded (take k text) → k < length text
     → lines ++ option_and_then decoded (slice_get text k) ∷ [] ≡ map decoded (take (k + 1) text)

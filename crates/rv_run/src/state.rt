@@ -89,6 +89,7 @@ impl<'a> State<'a> {
     }
 
     /// Does one step. Only `Went` changes the state.
+    #[inline(always)]
     pub fn step(&mut self) -> Result<Stepped, OutOfMemory>
         ensures step { IfOk result (IsStep (program_of self.old) (machine_of self.old) (machine_of self.new)) }
         ensures err { OnErr result (machine_of self.new ≡ machine_of self.old) }

@@ -7,6 +7,7 @@ pub mod Drawn
 pub mod Advancing
 pub mod Putting
 pub mod Spelled
+pub mod Numbers
 pub mod Closing
 pub mod Following
 pub mod FollowingFile

@@ -1,5 +1,8 @@
 -- Bytes that were taken from the host and are not yet given, and what giving some of them does.
-use Rattle.std.specs.Prelude.{◌≡◌, ◌≢◌, ℕ, ◌+◌, ◌↔◌, List, [], ◌++◌, length, Bool, true, false, IsTrue, Result, Ok, IfOk, IfErr, OnOk, IfSome, ◌≤◌}
+use Rattle.std.specs.Prelude.{◌≡◌, ◌≢◌, ℕ, zero, suc, ◌+◌, ◌↔◌, List, [], ◌∷◌, ◌++◌, length, take, drop, Bool, true, false, IsTrue, Result, Ok, IfOk, IfErr, OnOk, IfSome, ◌≤◌, ◌<◌}
+use Rattle.std.specs.Int.{w32, from_le_bytes}
+use Rattle.std.specs.List.{AllByRecursion}
+use Rattle.vm_field.specs.Field.{modulus}
 use Rattle.vm_host.specs.declared.Slot.TheVariants.{Second}
 use Rattle.vm_host.specs.State.{HostState, after_these}
 use Rattle.vm_host.specs.Calls.{AtEnd, Rose, Reads as HostReads}
@@ -49,6 +52,15 @@ pub record Gives (old new : Held) (count : ℕ) (bytes : List ℕ) : Type 0 wher
   pub parts : old.ahead ≡ bytes ++ new.ahead
   pub number : length bytes ≡ count
   pub place : new.at ≡ old.at + count
+
+-- the numbers that bytes spell, four bytes each with the lowest first
+abbrev pub numbers_of : ℕ → List ℕ → List ℕ
+numbers_of zero bytes = []
+numbers_of (suc count) bytes = from_le_bytes w32 (take 4 bytes) ∷ numbers_of count (drop 4 bytes)
+
+-- these are the numbers, and each is that of an element
+abbrev pub AreElements : ℕ → List ℕ → List ℕ → Type 0
+AreElements count bytes values = (values ≡ numbers_of count bytes) × AllByRecursion (λ n. n < modulus) (numbers_of count bytes)
 
 -- whether a byte follows; none was given
 pub record TellsEnd (old new : Held) (s t : HostState) (result : Result Bool (Stop Reason)) : Type 0 where

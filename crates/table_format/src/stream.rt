@@ -1,13 +1,13 @@
 //! The bytes of the host's second input, taken in large pieces and given as they are asked for.
 
-ghost use Rattle.std.specs.Prelude.{◌≡◌, ◌≢◌, ◌≤◌, ◌<◌, ◌↔◌, [], List, ℕ, IsTrue, MatchOption, length, take, drop, true, IfOk};
+ghost use Rattle.std.specs.Prelude.{◌≡◌, ◌≢◌, ◌≤◌, ◌<◌, ◌↔◌, ◌*◌, ◌^◌, [], List, ℕ, IsTrue, IsFalse, MatchOption, length, take, drop, true, IfOk};
 ghost use Rattle.std.specs.Int.{w32, from_le_bytes};
 ghost use Rattle.vm_field.specs.Field.{modulus};
 ghost use Rattle.vm_host.specs.declared.Slot.TheVariants.{Second};
 ghost use Rattle.readings.specs.Readings.{raw, number};
 ghost use Rattle.readings.specs.Told.{Is};
 ghost use Rattle.table_format.specs.declared.reason.Reason.TheVariants.{Cut};
-ghost use Rattle.table_format.specs.Stream.{Gives, Readies, ReadsBy};
+ghost use Rattle.table_format.specs.Stream.{Gives, Readies, ReadsBy, AreElements};
 
 use crate::Reason;
 use readings::Stop;
@@ -122,8 +122,28 @@ impl Stream {
         Some(u32::from_le_bytes(text))
     }
 
+    // Gives the next numbers, where all of their bytes are held and each is that of an element. So most rows are read
+    // in one turn, with no test of room for each value.
+    pub(crate) fn held_elements(&mut self, values: &mut [Fe]) -> bool
+        requires { length values.old < 2 ^ 32 }
+        ensures size { length values.new ≡ length values.old }
+        ensures held { IsTrue result → (bytes : List ℕ) × AreElements (length values.old) bytes values.new × Gives self.old self.new (4 * length values.old) bytes }
+        ensures none { IsFalse result → self.new ≡ self.old }
+    {
+        let size = 4 * values.len();
+        if self.filled - self.at < size {
+            return false;
+        }
+        let end = self.at + size;
+        let are_elements = read_elements(&self.piece[self.at..end], values);
+        if are_elements {
+            self.at = end;
+        }
+        are_elements
+    }
+
     // Gives the next number, where all of its bytes are held and it is that of an element. So most values of a row
-    // are read without an answer that has room for each reason.
+    // at a piece's end are read without an answer that has room for each reason.
     pub(crate) fn held_element(&mut self) -> Option<Fe>
         ensures { MatchOption result (self.new ≡ self.old) (λ n. (n < modulus) × ((bytes : List ℕ) × (n ≡ from_le_bytes w32 bytes) × Gives self.old self.new 4 bytes)) }
     {
@@ -180,4 +200,21 @@ impl Stream {
         self.fill(host, &mut text)?;
         Ok(u32::from_le_bytes(text))
     }
+}
+
+// Reads a number of four bytes into each place, and tells whether all are those of elements.
+fn read_elements(text: &[u8], values: &mut [Fe]) -> bool
+    requires { length text.now ≡ 4 * length values.old }
+    ensures size { length values.new ≡ length values.old }
+    ensures read { IsTrue result → AreElements (length values.old) text.now values.new }
+{
+    let mut are_elements = true;
+    'values: for place in 0..values.len() {
+        let mut bytes = [0u8; 4];
+        bytes.copy_from_slice(&text[4 * place..4 * place + 4]);
+        let element = Fe::new(u32::from_le_bytes(bytes));
+        are_elements &= element.is_some();
+        values[place] = element.unwrap_or(Fe::ZERO);
+    }
+    are_elements
 }

@@ -87,6 +87,10 @@ impl Stream {
         ensures reads { ReadsBy (elements width) (λ row unit. buffer.new.items ≡ row) self.old self.new (H.state host.old) (H.state host.new) result }
         ensures wide { OnOk result (length buffer.new.items ≡ width) }
     {
+        buffer.resize(width as usize, Fe::ZERO)?;
+        if self.held_elements(buffer) {
+            return Ok(());
+        }
         buffer.clear();
         'values: for _ in 0..width {
             let element = match self.held_element() {

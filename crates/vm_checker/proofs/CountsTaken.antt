@@ -1,5 +1,5 @@
 -- Entries and pages that were read, and what they say.
-use Rattle.std.proofs.Common.{◌≡◌, ℕ, ◌+◌, ◌*◌, ◌^◌, ◌<◌, ◌≤◌, true, List, [], ◌∷◌, ◌++◌, length, map, Option, Some, None, refl, sym, ap, subst, ◌∙◌, arith, append-nil, inl, inr}
+use Rattle.std.proofs.Common.{◌≡◌, ℕ, ◌+◌, ◌*◌, ◌^◌, ◌<◌, ◌≤◌, true, List, [], ◌∷◌, ◌++◌, length, map, Option, Some, None, refl, sym, ap, subst, ◌∙◌, arith, append-nil}
 use Rattle.std.specs.Prelude.{flat_map}
 use Rattle.std.specs.List.Sorted.{IsStrictlyIncreasing}
 use Rattle.std.proofs.lemmas.Grind.{flat_map-append}
@@ -22,6 +22,7 @@ use Rattle.offline_memory.specs.MemoryEvents.{boundary_events}
 use Rattle.page_tree.specs.Opening.{AreLabels}
 use Rattle.page_tree.specs.Parts.{label_of, labels_of}
 use Rattle.acceptance.specs.Events.{fixed_row, received_row, entry_events, received_on}
+use Rattle.acceptance.proofs.Whole.{label_small}
 use Rattle.table_format.specs.declared.reason.Reason.{Reason}
 use Rattle.table_format.specs.Order.{PageAt, entry, next_least, next_page, first_page}
 use Rattle.table_format.specs.Stream.{Held}
@@ -112,12 +113,6 @@ module _ (segment : ℕ) where
       → Halts (page_of segment (record { number = count; least = least })) b c t u stop → Halts (chain (page_of segment) next_page n first_page) a c s u stop
   page_halts {count} {n} {least} {pages} {a} {b} {c} {s} {t} {u} {stop = stop} lt h k =
       halts_chained (page_of segment) next_page first_page count n lt h.drew (subst (λ (x : PageAt). Halts (page_of segment x) b c t u stop) (sym h.at) k)
-
-  label_small : (label : ℕ) → IsMachineLabel label → label < 2 ^ 25
-  label_small label (inl e) = omega (arith, e)
-  label_small label (inr (inl e)) = omega (arith, e)
-  label_small label (inr (inr (inl h))) = omega (arith, h.1)
-  label_small label (inr (inr (inr e))) = omega (arith, e)
 
   pub pages_rise : {count least : ℕ} {pages : List Touched} {a b : Held} {s t : HostState} {old new : Heard} → PagesSo segment count least pages a b s t old new → IsStrictlyIncreasing (labels_of pages)
   unfolding labels_of

@@ -4,18 +4,15 @@ use Rattle.std.specs.Prelude.{not}
 use Rattle.std.specs.List.{AllByRecursion}
 use Rattle.std.specs.Cmp.Lexicographic.{same_text}
 use Rattle.std.proofs.lemmas.Bool.{eqb-true, eq-eqb}
-use Rattle.std.proofs.lemmas.List.Elements.{All-from_recursion}
 use Rattle.elf_image.specs.Loaded.{Loaded}
 use Rattle.vm_isa.specs.Blocks.{Terminates}
-use Rattle.vm_trace.specs.Canonical.{IsDigest, IsCanonicalSegment, IsCanonicalClaim}
+use Rattle.vm_trace.specs.Canonical.{IsCanonicalSegment, IsCanonicalClaim}
 use Rattle.vm_trace.specs.File.{Segment, File}
 use Rattle.vm_trace.specs.Limits.{Limits, limits_of}
 use Rattle.vm_transpile.specs.Program.{program_of}
 use Rattle.vm_transpile.proofs.Texts.{program_rises}
-use Rattle.air_core.specs.ListLemmas.{all_weaker}
 use Rattle.air_core.specs.System.{System}
 use Rattle.page_tree.specs.Tree.{root}
-use Rattle.page_tree.specs.Opening.{AreDigests}
 use Rattle.page_tree.specs.Start.{start_map}
 use Rattle.acceptance.specs.Accepts.{AreLinked, last_pc, last_root, OnlyLastEnds, ClaimHolds, shape_of}
 use Rattle.acceptance.specs.Holds.{SegmentHolds}
@@ -27,7 +24,7 @@ use Rattle.table_format.proofs.ExactFile.{no_reason, no_reason_in_a_piece, spell
 use Rattle.vm_checker.specs.declared.Before.{Before}
 use Rattle.vm_checker.specs.FirstReason.{start_behind, segment_tests, says_end, exit_code, code_test, public_test, file_tests}
 use Rattle.vm_checker.specs.Exactly.{SegmentStands, SegmentRejectedExactly, RejectedExactly, AcceptedFileIsOne}
-use Rattle.vm_checker.proofs.SegmentTests.{neither, both_none, all_rows_hold, all_rows_pass, stands, passes, code_ends, ends_code}
+use Rattle.vm_checker.proofs.SegmentTests.{neither, both_none, all_rows_hold, all_rows_pass, digests, stands, passes, code_ends, ends_code}
 
 not_so : (b : Bool) → not b ≡ true → b ≡ false
 not_so true h = absurd cc
@@ -116,9 +113,6 @@ module _ (x : System) (image : Loaded) (limits : Limits) where
 
   so_code : (o : Option ℕ) (stated : ℕ) → o ≡ Some stated → code_test o stated ≡ None
   so_code o stated h = rw h (so_want _ (reason.ExitCode stated stated) (eq-eqb stated stated refl))
-
-  digests : (ds : List (List ℕ)) → AllByRecursion IsDigest ds → AreDigests ds
-  digests ds h = All-from_recursion (λ (d : List ℕ). length d ≡ 32) ds (all_weaker IsDigest (λ (d : List ℕ). length d ≡ 32) (λ d k. k.size) ds h)
 
   pub claim_holds : (f : File) → AllByRecursion (IsCanonicalSegment limits (shape_of x image)) f.segments → IsCanonicalClaim f → PassesFile tests f → ClaimHolds x image f
   claim_holds f canonical claim p =

@@ -22,6 +22,7 @@ use Rattle.vm_transpile.proofs.Lookups.{found, finds}
 use Rattle.air_core.specs.declared.event.Event.{Event}
 use Rattle.air_core.specs.Balance.{Balanced}
 use Rattle.air_core.specs.First.{first_from}
+use Rattle.air_core.specs.lemmas.OneHot.{or_true}
 use Rattle.air_core.specs.ListLemmas.{all_weaker}
 use Rattle.air_core.specs.Sheet.{Sheet, IsRow, RowHolds}
 use Rattle.air_core.specs.System.{System, Part, EachRow, no_part, sheet_at}
@@ -146,10 +147,6 @@ or_first : (a b : Bool) → a ≡ true → (a || b) ≡ true
 or_first true b h = refl
 or_first false b h = absurd cc
 
-or_second : (a b : Bool) → b ≡ true → (a || b) ≡ true
-or_second true b h = refl
-or_second false b h = h
-
 abbrev is_within : ℕ → Bool
 is_within label = nat_le MEMORY_LABEL label && nat_lt label PUBLIC_LABEL
 
@@ -171,11 +168,11 @@ label_is label h = first_label label (or_parts (nat_eq label REGISTER_LABEL) (na
 
 is_label : (label : ℕ) → IsMachineLabel label → is_machine_label label ≡ true
 is_label label (inl e) = or_first (nat_eq label REGISTER_LABEL) _ (eq-eqb label REGISTER_LABEL e)
-is_label label (inr (inl e)) = or_second (nat_eq label REGISTER_LABEL) _ (or_first (nat_eq label (REGISTER_LABEL + 1)) _ (eq-eqb label (REGISTER_LABEL + 1) e))
+is_label label (inr (inl e)) = or_true (nat_eq label REGISTER_LABEL) _ (or_first (nat_eq label (REGISTER_LABEL + 1)) _ (eq-eqb label (REGISTER_LABEL + 1) e))
 is_label label (inr (inr (inl h))) =
-    or_second (nat_eq label REGISTER_LABEL) _ (or_second (nat_eq label (REGISTER_LABEL + 1)) _ (or_first (is_within label) _ (and_from _ _ (le-leb MEMORY_LABEL label h.0) (lt-ltb label PUBLIC_LABEL h.1))))
+    or_true (nat_eq label REGISTER_LABEL) _ (or_true (nat_eq label (REGISTER_LABEL + 1)) _ (or_first (is_within label) _ (and_from _ _ (le-leb MEMORY_LABEL label h.0) (lt-ltb label PUBLIC_LABEL h.1))))
 is_label label (inr (inr (inr e))) =
-    or_second (nat_eq label REGISTER_LABEL) _ (or_second (nat_eq label (REGISTER_LABEL + 1)) _ (or_second (is_within label) _ (eq-eqb label PUBLIC_LABEL e)))
+    or_true (nat_eq label REGISTER_LABEL) _ (or_true (nat_eq label (REGISTER_LABEL + 1)) _ (or_true (is_within label) _ (eq-eqb label PUBLIC_LABEL e)))
 
 abbrev PagesPass : Stand → PageAt → List Touched → Type 0
 PagesPass at place pages = Each (λ (place : PageAt) (page : Touched). page_test at.number place page ≡ None) next_page place pages
@@ -289,7 +286,7 @@ pub record AllPassed (x : System) (program : List VmInstr) (start : Option Befor
   pub siblings : siblings_test x program at.number s (length s.siblings) ≡ None
   pub whole : whole_test program start at.number s ≡ None
 
-digests : (ds : List (List ℕ)) → AllByRecursion IsDigest ds → AreDigests ds
+pub digests : (ds : List (List ℕ)) → AllByRecursion IsDigest ds → AreDigests ds
 digests ds h = All-from_recursion (λ (d : List ℕ). length d ≡ 32) ds (all_weaker IsDigest (λ (d : List ℕ). length d ≡ 32) (λ d k. k.size) ds h)
 
 pub stands : (x : System) (program : List VmInstr) (program_len : ℕ) (limits : Limits) (start : Option Before) (at : Stand) (s : Segment)

@@ -29,10 +29,12 @@ fn take_row<E: Extension, H: Host>(
     tally: &mut Tally,
     segment: u32,
     table: u32,
+    width: u32,
     place: u32,
 ) -> Result<(), Stop<Reason>>
     requires open { ((H.state host.old).input Second).is_open ≡ true }
     requires known { table < length (E.system ext.now).parts }
+    requires wide { width ≡ (sheet_at (E.system ext.now) table).width }
     requires room { 256 ≤ room_left tally.old.said }
     requires counted { tally.old.valid + 1 < 2 ^ 64 }
     requires heard { (events : List AnEvent) × Hears tally.old.said events }
@@ -40,7 +42,7 @@ fn take_row<E: Extension, H: Host>(
         (λ row unit. Tallied (IsRow (sheet_at (E.system ext.now) table) row) (row_events (sheet_at (E.system ext.now) table) row ∷ []) tally.old tally.new)
         stream.old stream.new (H.state host.old) (H.state host.new) result }
 {
-    stream.row(host, buffer, ext.width(table))?;
+    stream.row(host, buffer, width)?;
     if let Some(constraint) = ext.first_broken(table, buffer) {
         return Err(Stop::Refused(Reason::Row {
             segment,
@@ -75,8 +77,11 @@ fn take_rows<E: Extension, H: Host>(
         (λ rows unit. Tallied (AllByRecursion (IsRow (sheet_at (E.system ext.now) table)) rows) (map (row_events (sheet_at (E.system ext.now) table)) rows) tally.old tally.new)
         stream.old stream.new (H.state host.old) (H.state host.new) result }
 {
+    let width = ext.width(table);
     for place in 0..height {
-        take_row(stream, host, ext, buffer, tally, segment, table, place)?;
+        take_row(
+            stream, host, ext, buffer, tally, segment, table, width, place,
+        )?;
     }
     Ok(())
 }

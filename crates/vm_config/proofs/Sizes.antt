@@ -19,21 +19,18 @@ use Rattle.gadget_shift.specs.Shift.{shift_columns, amount_constraints, amount_p
 use Rattle.chip_shift.specs.Shift.{shift_constraints_of, shift_lookups_of}
 use Rattle.adapter_mem.specs.Memory.{memory_numbers}
 use Rattle.adapter_mem.specs.Pointer.{pointer_constraints, low_half, high_half, half_out, part, pointer}
-use Rattle.chip_load.specs.Load.{load_limb}
-use Rattle.chip_store.specs.Store.{store_limb}
+use Rattle.adapter_mem.specs.Select.{loaded_limb, stored_limb}
 use Rattle.adapter_regs.specs.Next.{next_by}
 use Rattle.chip_branch.specs.Branch.{branch_numbers, branch_touches}
 use Rattle.chip_branch.specs.Conditions.{apart_by, equal_constraints, either_way}
-use Rattle.chip_jump.specs.Link.{number_by, link_difference}
-use Rattle.chip_jump.specs.JalLui.{jal_constraints, jal_lines, jal_numbers, jal_touches}
-use Rattle.chip_jump.specs.Auipc.{auipc_constraints, auipc_lines, auipc_numbers, auipc_touches}
-use Rattle.chip_jump.specs.Jalr.{jalr_constraints, jalr_lines, jalr_numbers, jalr_touches}
+use Rattle.chip_jump.specs.Link.{number_by, link_difference, link_numbers}
 use Rattle.gadget_products.specs.Product.{place, places}
 use Rattle.gadget_products.specs.Carry.{carry_out, carries, last_carry}
 use Rattle.gadget_products.specs.Multiply.{extended, product_carries}
 use Rattle.chip_mul.specs.Mul.{products_of, left_signed, chosen, mul_lookups}
 use Rattle.gadget_products.specs.Divide.{added, division_sums, division_carries, division_top}
-use Rattle.chip_divrem.specs.DivRem.{divided_of, signed, quotients, remainders, chosen_limb, chosen as chosen_pair, signs_differ, zero_constraints, not_below, sign_part, word_part, result_part, order_part, divrem_constraints, first_bytes, last_bytes, divrem_lookups}
+use Rattle.gadget_divide.specs.Divided.{divided_of, signs_differ, zero_constraints, not_below, operand_constraints, result_constraints, divided_bytes, divided_lookups}
+use Rattle.chip_divrem.specs.DivRem.{signed, quotients, remainders, chosen_limb, chosen as chosen_pair, divrem_constraints, divrem_lookups}
 use Rattle.gadget_bits.specs.Bits.{halves_at, number_by as number_by_bits, halves_by, xor3_of, choice_of, majority_of, big_sigma_bits, small_sigma_bits, choice_bits, majority_bits}
 use Rattle.gadget_bits.specs.Sum.{half_carry, low_carry, high_carry, sum_lines}
 use Rattle.chip_sha_main.specs.Main.{main_row, word_field, word_halves, block_halves, run_touches, main_touches, carry_bits, sum_bits, main_ranges, start_words, end_words, chain_lines, main_numbers}
@@ -48,9 +45,7 @@ use Rattle.chip_load.specs.Load.{load_table}
 use Rattle.chip_store.specs.Store.{store_table}
 use Rattle.chip_branch.specs.Branch.{branch_form}
 use Rattle.chip_branch.specs.Conditions.{equal_condition, order_condition}
-use Rattle.chip_jump.specs.JalLui.{jal_lui_form}
-use Rattle.chip_jump.specs.Auipc.{auipc_form}
-use Rattle.chip_jump.specs.Jalr.{jalr_form}
+use Rattle.chip_jump.specs.Cores.{jal_lui_form, auipc_form, jalr_form}
 use Rattle.chip_mul.specs.Mul.{mul_core}
 use Rattle.chip_divrem.specs.DivRem.{divrem_core}
 use Rattle.chip_io.specs.Hint.{hint_table}
@@ -85,11 +80,11 @@ unfolding bit gated_difference flag_constraints path_lines list_of sign_constrai
 shift_sized = record { constraints = λ row. refl; events = λ hi row. refl }
 
 pub load_sized : Sized (memory_form load_table) (size 21 18)
-unfolding flag_constraints path_lines time_constraint touch_constraint touch_lines columns_by form_constraints bit list_of sign_constraints sign_looked_up memory_numbers pointer_constraints low_half high_half half_out part pointer load_limb
+unfolding flag_constraints path_lines time_constraint touch_constraint touch_lines columns_by form_constraints bit list_of sign_constraints sign_looked_up memory_numbers pointer_constraints low_half high_half half_out part pointer loaded_limb
 load_sized = record { constraints = λ row. refl; events = λ hi row. refl }
 
 pub store_sized : Sized (memory_form store_table) (size 13 17)
-unfolding flag_constraints path_lines time_constraint touch_constraint touch_lines columns_by form_constraints bit list_of memory_numbers pointer_constraints low_half high_half half_out part pointer store_limb
+unfolding flag_constraints path_lines time_constraint touch_constraint touch_lines columns_by form_constraints bit list_of memory_numbers pointer_constraints low_half high_half half_out part pointer stored_limb
 store_sized = record { constraints = λ row. refl; events = λ hi row. refl }
 
 pub branch_eq_sized : Sized (branch_form equal_condition) (size 11 11)
@@ -101,15 +96,15 @@ unfolding bit flag_constraints path_lines list_of marks_sum equal_above marked_d
 branch_lt_sized = record { constraints = λ row. refl; events = λ hi row. refl }
 
 pub jal_lui_sized : Sized (jal_lui_form) (size 9 11)
-unfolding flag_constraints path_lines time_constraint touch_constraint touch_lines columns_by form_constraints bit gated_difference next_by number_by link_difference jal_constraints jal_lines jal_numbers jal_touches
+unfolding flag_constraints path_lines time_constraint touch_constraint touch_lines columns_by form_constraints bit gated_difference next_by number_by link_difference link_numbers
 jal_lui_sized = record { constraints = λ row. refl; events = λ hi row. refl }
 
 pub auipc_sized : Sized (auipc_form) (size 8 15)
-unfolding flag_constraints path_lines time_constraint touch_constraint touch_lines columns_by form_constraints bit list_of sum_constraints carry_out gated_bit number_by auipc_constraints auipc_lines auipc_numbers auipc_touches
+unfolding flag_constraints path_lines time_constraint touch_constraint touch_lines columns_by form_constraints bit list_of sum_constraints carry_out gated_bit number_by link_numbers
 auipc_sized = record { constraints = λ row. refl; events = λ hi row. refl }
 
 pub jalr_sized : Sized (jalr_form) (size 8 17)
-unfolding flag_constraints path_lines time_constraint touch_constraint touch_lines columns_by form_constraints bit pointer_constraints low_half high_half half_out part pointer number_by link_difference jalr_constraints jalr_lines jalr_numbers jalr_touches
+unfolding flag_constraints path_lines time_constraint touch_constraint touch_lines columns_by form_constraints bit pointer_constraints low_half high_half half_out part pointer number_by link_difference link_numbers
 jalr_sized = record { constraints = λ row. refl; events = λ hi row. refl }
 
 pub mul_sized : Sized (regs_form mul_core) (size 12 33)
@@ -117,7 +112,7 @@ unfolding bit gated_difference flag_constraints path_lines list_of choose sign_c
 mul_sized = record { constraints = λ row. refl; events = λ hi row. refl }
 
 pub divrem_sized : Sized (regs_form divrem_core) (size 68 50)
-unfolding bit gated_difference flag_constraints path_lines list_of marks_sum equal_above marked_differs top_constraint differences less_constraints less_ranges sign_constraints sign_looked_up negative_constraints same_constraints sum_constraints sum_carry gated_bit place places carry_out carries last_carry added division_sums division_carries division_top time_constraint touch_constraint touch_lines columns_by form_constraints regs_of first_touch second_touch third_touch immediate_constraints regs_numbers divided_of signed quotients remainders chosen_limb chosen_pair signs_differ zero_constraints not_below sign_part word_part result_part order_part divrem_constraints first_bytes last_bytes divrem_lookups
+unfolding bit gated_difference flag_constraints path_lines list_of marks_sum equal_above marked_differs top_constraint differences less_constraints less_ranges sign_constraints sign_looked_up negative_constraints same_constraints sum_constraints sum_carry gated_bit place places carry_out carries last_carry added division_sums division_carries division_top time_constraint touch_constraint touch_lines columns_by form_constraints regs_of first_touch second_touch third_touch immediate_constraints regs_numbers divided_of signs_differ zero_constraints not_below operand_constraints result_constraints divided_bytes divided_lookups signed quotients remainders chosen_limb chosen_pair divrem_constraints divrem_lookups
 divrem_sized = record { constraints = λ row. refl; events = λ hi row. refl }
 
 pub hint_sized : Sized (memory_form hint_table) (size 6 17)

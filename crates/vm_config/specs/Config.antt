@@ -13,9 +13,7 @@ use Rattle.chip_load.specs.Load.{load_table}
 use Rattle.chip_store.specs.Store.{store_table}
 use Rattle.chip_branch.specs.Branch.{branch_form}
 use Rattle.chip_branch.specs.Conditions.{equal_condition, order_condition}
-use Rattle.chip_jump.specs.JalLui.{jal_lui_form}
-use Rattle.chip_jump.specs.Auipc.{auipc_form}
-use Rattle.chip_jump.specs.Jalr.{jalr_form}
+use Rattle.chip_jump.specs.Cores.{jal_lui_form, auipc_form, jalr_form}
 use Rattle.chip_mul.specs.Mul.{mul_core}
 use Rattle.chip_divrem.specs.DivRem.{divrem_core}
 use Rattle.chip_io.specs.Hint.{hint_table}

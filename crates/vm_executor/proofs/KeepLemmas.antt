@@ -17,7 +17,7 @@ use Rattle.vm_executor.specs.Machine.{with_time}
 use Rattle.vm_executor.specs.Pages.{IsPut, begun_page, never}
 use Rattle.vm_executor.specs.Memory.{Kept, place_at, page_at, label_of, block_in, word_by, time_by, blocks_by, now_of, began_of, times_of, AreKept, IsIdle, PutBlock, IsFresh, KeepsAll, Begins}
 
-by_test : {P : Type 0} (b : Bool) → (b ≡ true → P) → (b ≡ false → P) → P
+pub by_test : {P : Type 0} (b : Bool) → (b ≡ true → P) → (b ≡ false → P) → P
 by_test true holds fails = holds refl
 by_test false holds fails = fails refl
 

@@ -11,7 +11,7 @@ use Rattle.vm_isa.proofs.NextLaws.{done_is_a_meaning, is_done, meant, no_meaning
 use Rattle.vm_transpile.specs.Order.{RisesFrom}
 use Rattle.vm_transpile.proofs.Lookups.{finds}
 use Rattle.vm_executor.proofs.ReadLemmas.{HasRead, none_read, read_more, read_forced, places_long}
-use Rattle.vm_executor.proofs.WriteLemmas.{nth_at, prefix}
+use Rattle.vm_executor.proofs.WriteLemmas.{nth_at, prefix, some_meaning}
 
 no_end : (i : VmInstr) (words : List (List ℕ)) (given : List ℕ) (m : Meaning) (k : ℕ) → means_of i words given ≡ Some m → next_access_of i (take k words) ≡ NoMeaning → ⊥
 no_end i words given m k h none = let no : None ≡ Some m = sym (no_meaning_is_final i (take k words) none (drop k words) given) ∙ prefix i words given m k h in absurd (cc)
@@ -46,10 +46,7 @@ one_olds i blocks olds others given word m n h meets g meet =
     let read = subst (HasRead i blocks) (take_all (length olds) olds (omega arith)) (reads i blocks olds given m h meets (length olds) (omega arith)) in
     read_forced i blocks olds others word n read (is_done i olds is.fits is.long) g meet
 
-some_meaning : (x y : Meaning) → (Some x) ≡ (Some y) → x ≡ y
-some_meaning x y h = cc
-
-some_row : (x y : VmInstr) → (Some x) ≡ (Some y) → x ≡ y
+pub some_row : (x y : VmInstr) → (Some x) ≡ (Some y) → x ≡ y
 some_row x y h = cc
 
 -- two steps of a state lead to one state

@@ -17,6 +17,7 @@ use Rattle.vm_isa.proofs.NextLaws.{done_is_a_meaning, meant, next_is_the_meaning
 use Rattle.vm_executor.specs.declared.block.Reached.{Reached}
 use Rattle.vm_executor.specs.Memory.{Kept, IsReached, StaysReached}
 use Rattle.vm_executor.specs.Read.{AreReached, IsNext}
+use Rattle.vm_executor.proofs.KeepLemmas.{by_test}
 use Rattle.vm_executor.proofs.MetWords.{old_words}
 
 -- What was read so far: each meaning with these words finds them, and each that can be done has them.
@@ -41,7 +42,7 @@ get_middle : (xs ys : List (List ℕ)) (y : List ℕ) → slice_get (xs ++ y ∷
 get_middle [] ys y = refl
 get_middle (x ∷ xs) ys y = get_middle xs ys y
 
-all_at_item : (blocks : Blocks) (xs : List Accessed) (k : ℕ) (a : Accessed) → slice_get xs k ≡ Some a → AllByRecursion (FindsItsWord blocks) xs → FindsItsWord blocks a
+pub all_at_item : (blocks : Blocks) (xs : List Accessed) (k : ℕ) (a : Accessed) → slice_get xs k ≡ Some a → AllByRecursion (FindsItsWord blocks) xs → FindsItsWord blocks a
 all_at_item blocks [] k a h all = absurd (cc)
 all_at_item blocks (x ∷ xs) zero a h all = let same : x ≡ a = cc in subst (FindsItsWord blocks) same all.0
 all_at_item blocks (x ∷ xs) (suc k) a h all = all_at_item blocks xs k a h all.1
@@ -138,10 +139,6 @@ reached_more i old new words word blocks block reached stays next is = record {
 }
 
 -- ---- how many words there are
-
-by_test : {P : Type 0} (b : Bool) → (b ≡ true → P) → (b ≡ false → P) → P
-by_test true holds fails = holds refl
-by_test false holds fails = fails refl
 
 -- the number of an instruction's accesses doesn't depend on its words
 pub places_long : (i : VmInstr) (b c d e : ℕ) → length (places_by i b c) ≡ length (places_by i d e)

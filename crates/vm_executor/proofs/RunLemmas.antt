@@ -23,7 +23,7 @@ use Rattle.vm_executor.specs.Laws.{RunsAreRunsOnBlocks, RunsAreTheManuals, RunsG
 use Rattle.vm_executor.specs.Machine.{Machine, vm_state}
 use Rattle.vm_executor.specs.Runs.{IsWent, StaysOrBegins, starting}
 use Rattle.vm_executor.specs.State.{IsStep}
-use Rattle.vm_executor.proofs.OneStep.{one_step}
+use Rattle.vm_executor.proofs.OneStep.{one_step, some_row}
 use Rattle.vm_executor.proofs.VmSteps.{vm_step}
 
 same_state : (m n : Machine) → StaysOrBegins m n → vm_state n ≡ vm_state m
@@ -60,9 +60,6 @@ refused i olds e = rw e refl
 
 pub no_end : (i : VmInstr) (olds : List (List ℕ)) (given : List ℕ) (m : Meaning) → i.op ≡ 41 → means_of i olds given ≡ Some m → ⊥
 no_end i olds given m e h = both_ways (is_refused i olds) (meant i olds given m h).fits (refused i olds e)
-
-some_row : (x y : VmInstr) → (Some x) ≡ (Some y) → x ≡ y
-some_row x y h = cc
 
 ends_stuck : (program : List VmInstr) (m : Machine) (t : VmState) (code : ℕ) → RisesFrom 0 program → Terminates program m.pc code → VmStep program (vm_state m) t → ⊥
 ends_stuck program m t code rises end step =

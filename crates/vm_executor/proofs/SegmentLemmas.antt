@@ -1,5 +1,5 @@
 -- The pages that were reached in a segment.
-use Rattle.std.proofs.Common.{◌≡◌, ℕ, Bool, true, false, cond, nat_eq, List, [], ◌∷◌, ◌++◌, length, get_or, set, replicate, Option, Some, None, refl, sym, ap, ◌∙◌, subst}
+use Rattle.std.proofs.Common.{◌≡◌, ℕ, Bool, false, cond, nat_eq, List, [], ◌∷◌, ◌++◌, length, get_or, set, replicate, Option, Some, None, refl, sym, ap, ◌∙◌, subst}
 use Rattle.std.specs.Option.{option_map}
 use Rattle.std.proofs.lemmas.Bool.{eqb-true}
 use Rattle.elf_image.specs.Loaded.{Loaded}
@@ -7,11 +7,7 @@ use Rattle.vm_trace.specs.declared.page.Touched.{Touched}
 use Rattle.vm_executor.specs.Pages.{begun_page}
 use Rattle.vm_executor.specs.Memory.{Kept, IsReached, entry_at, label_of, place_at, page_at, IsAtRest, IsFresh, IsSegment}
 use Rattle.vm_executor.specs.declared.block.Reached.{Reached}
-use Rattle.vm_executor.proofs.KeepLemmas.{Placed, placed, unplaced, page-push, place-push, page-set, place-set}
-
-by_test : {P : Type 0} (b : Bool) → (b ≡ true → P) → (b ≡ false → P) → P
-by_test true holds fails = holds refl
-by_test false holds fails = fails refl
+use Rattle.vm_executor.proofs.KeepLemmas.{Placed, by_test, placed, unplaced, page-push, place-push, page-set, place-set}
 
 -- the page of a block that was reached
 pub reached_page : (kept : Kept) (block : Reached) (d : Touched) → IsSegment kept → IsReached kept block → Placed kept.pages (label_of block.space block.pointer) block.page d

@@ -34,7 +34,7 @@ use Rattle.vm_executor.proofs.ReplayLemmas.{replays_linked, replays_fit, accesse
 use Rattle.vm_isa.proofs.GivenLaws.{means_same}
 use Rattle.vm_isa.proofs.SlotRises.{meaning_rises}
 use Rattle.vm_isa.specs.Laws.{SlotsRise}
-use Rattle.vm_executor.proofs.StepLemmas.{meets_replay, replays_both}
+use Rattle.vm_executor.proofs.StepLemmas.{meets_replay, replays_both, placed_same}
 
 -- a segment begins without records
 pub since_begun : (program : List VmInstr) (m : Machine) → Since program m.pc [] (begun m)
@@ -61,9 +61,6 @@ times_low bound [] times low all = low
 times_low bound (a ∷ xs) times low all =
     times_low bound xs (with_time times a.access.space a.access.pointer a.time)
     (λ s p. low_by bound a.time (times s p) (nat_eq s a.access.space && nat_eq p a.access.pointer) all.0 (low s p)) all.1
-
-pub placed_same : (x y : Placed) (xs ys : List Placed) → x ∷ xs ≡ y ∷ ys → (x ≡ y) × (xs ≡ ys)
-placed_same x y xs ys h = (cc, cc)
 
 -- each access is after the one before, and in the time of the step
 pub record Timely (time slots : ℕ) (xs : List TimedAccess) : Type 0 where

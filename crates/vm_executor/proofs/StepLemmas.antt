@@ -25,7 +25,7 @@ pub replays_both : (m mid final : AMemory) (xs ys : List Access) → Replays m x
 replays_both m mid final [] ys h k = replays_same mid m (λ s p. sym (h s p)) ys final k
 replays_both m mid final (a ∷ xs) ys h k = (h.0, replays_both (after_access a m) mid final xs ys h.1 k)
 
-placed_same : (x y : Placed) (xs ys : List Placed) → x ∷ xs ≡ y ∷ ys → (x ≡ y) × (xs ≡ ys)
+pub placed_same : (x y : Placed) (xs ys : List Placed) → x ∷ xs ≡ y ∷ ys → (x ≡ y) × (xs ≡ ys)
 placed_same x y xs ys h = (cc, cc)
 
 flip : (a b : ℕ) → nat_eq a b ≡ nat_eq b a

@@ -1,5 +1,5 @@
 -- The hints and the row of a step, and what it comes to.
-use Rattle.std.proofs.Common.{◌≡◌, ℕ, ◌+◌, ◌≤◌, Bool, true, false, nat_eq, List, [], ◌∷◌, length, map, get_or, take, Some, None, Contains, refl, sym, ap, ◌∙◌, subst, arith}
+use Rattle.std.proofs.Common.{◌≡◌, ℕ, ◌+◌, Bool, true, false, nat_eq, List, map, Some, None, Contains, refl, sym, ap, ◌∙◌, subst}
 use Rattle.std.specs.List.{AllByRecursion}
 use Rattle.vm_isa.specs.Blocks.{Blocks, Meets, Terminates, after_accesses}
 use Rattle.vm_isa.specs.Opcodes.{TERMINATE}
@@ -20,13 +20,6 @@ use Rattle.vm_executor.specs.Write.{AreMade, IsPlanned}
 use Rattle.vm_executor.proofs.MetWords.{old_words}
 use Rattle.vm_executor.proofs.VmSteps.{olds_of, olds_at}
 use Rattle.vm_executor.proofs.WriteLemmas.{timed_is}
-
-pub four_bytes : (xs : List ℕ) → 4 ≤ length xs → get_or xs 0 0 ∷ get_or xs 1 0 ∷ get_or xs 2 0 ∷ get_or xs 3 0 ∷ [] ≡ take 4 xs
-four_bytes [] h = absurd (omega arith)
-four_bytes (a ∷ []) h = absurd (omega arith)
-four_bytes (a ∷ b ∷ []) h = absurd (omega arith)
-four_bytes (a ∷ b ∷ c ∷ []) h = absurd (omega arith)
-four_bytes (a ∷ b ∷ c ∷ d ∷ xs) h = refl
 
 -- one row stands at a pc
 pub one_row : (program : List VmInstr) (pc : ℕ) (a b : VmInstr) → RisesFrom 0 program → Rattle.std.specs.Prelude.find (λ r. nat_eq r.pc pc) program ≡ Some a → Contains program b → b.pc ≡ pc → b ≡ a

@@ -1,5 +1,5 @@
 -- The pages of a segment, gathered in the order of their labels.
-use Rattle.std.proofs.Common.{◌≡◌, ℕ, ◌+◌, ◌*◌, ◌/◌, ◌%◌, ◌<◌, ◌≤◌, ◌⊎◌, inl, inr, Bool, true, false, cond, nat_eq, List, [], ◌∷◌, ◌++◌, length, map, get_or, slice_index, Option, Some, None, Contains, refl, sym, ap, ◌∙◌, subst, ⊎_elim, arith, length-append, zero, suc}
+use Rattle.std.proofs.Common.{◌≡◌, ℕ, ◌+◌, ◌*◌, ◌/◌, ◌%◌, ◌<◌, ◌≤◌, ◌⊎◌, inl, inr, true, cond, nat_eq, List, [], ◌∷◌, ◌++◌, length, map, get_or, slice_index, Option, Some, None, Contains, refl, sym, ap, ◌∙◌, subst, ⊎_elim, arith, length-append, zero, suc}
 use Rattle.std.proofs.lemmas.List.{map-append}
 use Rattle.std.proofs.Math.ListN.{get_or-append}
 use Rattle.std.proofs.Math.Seq.{get_or-append_seam}
@@ -19,7 +19,7 @@ use Rattle.vm_trace.specs.PageBlocks.{InPages, IsPage}
 use Rattle.vm_trace.proofs.BlockLemmas.{block_inside}
 use Rattle.vm_executor.specs.Pages.{AreTouched, HasAccess, begun_page}
 use Rattle.vm_executor.specs.Memory.{Kept, AreKept, IsAtRest, IsIdle, IsSegment, entry_at, page_at, label_of, block_in, blocks_by, now_of, began_of, times_of}
-use Rattle.vm_executor.proofs.KeepLemmas.{placed, place_of_block}
+use Rattle.vm_executor.proofs.KeepLemmas.{by_test, placed, place_of_block}
 
 -- no block of the page was accessed
 abbrev pub IsQuiet : Touched → Type 0
@@ -40,10 +40,6 @@ pub record Gathered (kept : Kept) (left : List (ℕ × ℕ)) (pages : List Touch
   pub passed : (label place : ℕ) (page : Touched) → entry_at kept.reached label ≡ Some place → page_at kept.pages label ≡ Some page → Contains left (label, place) ⊎ (Contains pages page ⊎ IsQuiet page)
 
 -- ---- lists
-
-by_test : {P : Type 0} (b : Bool) → (b ≡ true → P) → (b ≡ false → P) → P
-by_test true holds fails = holds refl
-by_test false holds fails = fails refl
 
 some_page : (x y : Touched) → (Some x) ≡ (Some y) → x ≡ y
 some_page x y h = cc

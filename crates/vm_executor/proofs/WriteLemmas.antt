@@ -1,7 +1,6 @@
 -- The accesses of a step, one after another.
 use Rattle.std.proofs.Common.{◌≡◌, ℕ, zero, suc, ◌+◌, ◌<◌, ◌≤◌, ◌&&◌, Bool, true, false, cond, nat_eq, List, [], ◌∷◌, ◌++◌, length, map, get_or, take, drop, Some, refl, sym, ap, ◌∙◌, subst, arith, length-take}
 use Rattle.std.specs.Prelude.{slice_get}
-use Rattle.std.specs.List.{AllByRecursion}
 use Rattle.std.proofs.lemmas.Bool.{and_from, and_parts, eq-eqb, eqb-true}
 use Rattle.std.proofs.lemmas.Bool.Decides.{nat_tests}
 use Rattle.std.proofs.lemmas.List.{length-map, map-append, take_all}
@@ -9,7 +8,7 @@ use Rattle.vm_isa.specs.declared.access.TimedAccess.{TimedAccess}
 use Rattle.vm_isa.specs.declared.instr.VmInstr.{VmInstr}
 use Rattle.vm_isa.specs.declared.meaning.NextAccess.TheVariants.{At, Done}
 use Rattle.vm_isa.specs.Blocks.{Blocks, Meets, after_accesses, is_block, with_block}
-use Rattle.vm_isa.specs.Laws.{FindsItsWord, SlotsRise}
+use Rattle.vm_isa.specs.Laws.{SlotsRise}
 use Rattle.vm_isa.specs.Means.{Accessed, HasNew, Meaning, means_of, next_access_of, placed, placed_at, Placed}
 use Rattle.vm_isa.specs.Slots.{slots_of}
 use Rattle.vm_isa.proofs.MeetLaws.{met_words_stand}
@@ -22,7 +21,8 @@ use Rattle.vm_executor.specs.declared.block.Reached.{Reached}
 use Rattle.vm_executor.specs.Read.{AreReached}
 use Rattle.vm_executor.specs.Write.{ArePlanned, AreAt, AreMade, IsPlanned, after_timed}
 use Rattle.vm_executor.proofs.MetWords.{old_words}
-use Rattle.vm_executor.proofs.ReadLemmas.{words_few}
+use Rattle.vm_executor.proofs.ReadLemmas.{all_at_item, words_few}
+use Rattle.vm_executor.proofs.StepLemmas.{placed_same}
 
 times-more : (times : Times) (xs : List TimedAccess) (a : TimedAccess) → times_after times (xs ++ a ∷ []) ≡ with_time (times_after times xs) a.access.space a.access.pointer a.time
 times-more times [] a = refl
@@ -80,11 +80,6 @@ nth_old [] k a d h = absurd (cc)
 nth_old (x ∷ xs) zero a d h = let same : x ≡ a = cc in ap (λ (b : Accessed). b.old) same
 nth_old (x ∷ xs) (suc k) a d h = nth_old xs k a d h
 
-nth_finds : (blocks : Blocks) (xs : List Accessed) (k : ℕ) (a : Accessed) → slice_get xs k ≡ Some a → AllByRecursion (FindsItsWord blocks) xs → FindsItsWord blocks a
-nth_finds blocks [] k a h all = absurd (cc)
-nth_finds blocks (x ∷ xs) zero a h all = let same : x ≡ a = cc in subst (FindsItsWord blocks) same all.0
-nth_finds blocks (x ∷ xs) (suc k) a h all = nth_finds blocks xs k a h all.1
-
 nth_slot : (from slots : ℕ) (xs : List Accessed) (k : ℕ) (a : Accessed) → slice_get xs k ≡ Some a → SlotsRise from slots xs → a.slot < slots
 nth_slot from slots [] k a h rise = absurd (cc)
 nth_slot from slots (x ∷ xs) zero a h rise = let same : x ≡ a = cc in subst (λ (b : Accessed). b.slot < slots) same rise.1
@@ -100,7 +95,7 @@ nth_at blocks i words given m k slot space pointer d h meets low at =
     let next = next_is_the_meanings i (take k words) (drop k words) given slot space pointer m at (prefix i words given m k h) in
     let a = next.0 in
     let stands : slice_get m.accesses k ≡ Some a = ap (slice_get m.accesses) (sym size) ∙ next.1 in
-    let finds = nth_finds blocks m.accesses k a stands (met_words_stand blocks i words given m h meets) in (
+    let finds = all_at_item blocks m.accesses k a stands (met_words_stand blocks i words given m h meets) in (
       a,
       record {
         stands = stands;
@@ -114,7 +109,7 @@ nth_at blocks i words given m k slot space pointer d h meets low at =
       },
     )
 
-some_meaning : (x y : Meaning) → (Some x) ≡ (Some y) → x ≡ y
+pub some_meaning : (x y : Meaning) → (Some x) ≡ (Some y) → x ≡ y
 some_meaning x y h = cc
 
 -- its new word
@@ -220,9 +215,6 @@ made_more old mid new done a s p made space pointer put = record {
       ∙ ap (λ (n : ℕ). with_time (times_after (times_of old) done) a.access.space n a.time) (sym pointer) ∙ sym (times-more (times_of old) done a);
 }
 
-pub made_all : (old new : Kept) (done : List TimedAccess) (n : ℕ) → length done ≤ n → AreMade old new (take n done) → AreMade old new done
-made_all old new done n all made = subst (AreMade old new) (take_all n done all) made
-
 pub take_one : (xs : List TimedAccess) (k : ℕ) (a : TimedAccess) → slice_get xs k ≡ Some a → take (k + 1) xs ≡ take k xs ++ a ∷ []
 take_one [] k a h = absurd (cc)
 take_one (y ∷ xs) zero a h = let same : y ≡ a = cc in ap (λ z. z ∷ []) same
@@ -237,9 +229,6 @@ pub get_some : (xs : List TimedAccess) (k : ℕ) → k < length xs → (a : Time
 get_some [] k h = absurd (omega arith)
 get_some (y ∷ xs) zero h = (y, refl)
 get_some (y ∷ xs) (suc k) h = get_some xs k (omega arith)
-
-placed_same : (x y : Placed) (xs ys : List Placed) → x ∷ xs ≡ y ∷ ys → (x ≡ y) × (xs ≡ ys)
-placed_same x y xs ys h = (cc, cc)
 
 -- what planned accesses leave, the meaning leaves
 pub timed_is : (time : ℕ) (done : List TimedAccess) (xs : List Accessed) (blocks : Blocks) → map placed done ≡ map (placed_at time) xs → after_timed blocks done ≡ after_accesses blocks xs

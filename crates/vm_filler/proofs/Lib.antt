@@ -19,5 +19,6 @@ mod CountLemmas
 mod RowsLemmas
 mod TablesLemmas
 mod PushLemmas
+mod Unused
 mod SegmentLemmas
 mod TakenLemmas

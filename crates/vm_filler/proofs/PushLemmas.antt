@@ -24,7 +24,7 @@ use Rattle.vm_filler.proofs.FixedRows.{program_places, program_at}
 
 -- ---- records of rows
 
-same_itself : (xs : List ℕ) → pointwise nat_eq xs xs ≡ true
+pub same_itself : (xs : List ℕ) → pointwise nat_eq xs xs ≡ true
 same_itself [] = refl
 same_itself (x ∷ xs) = rw (eq-eqb x x refl) (same_itself xs)
 
@@ -93,7 +93,7 @@ taken_more done i d low is = take_more done i d low ∙ ap (λ (x : StepRecord).
 
 -- ---- entries
 
-entries_append : (least : ℕ) (xs ys : List ℕ) → entries_from least (xs ++ ys) ≡ entries_from least xs ++ entries_from (least + length xs) ys
+pub entries_append : (least : ℕ) (xs ys : List ℕ) → entries_from least (xs ++ ys) ≡ entries_from least xs ++ entries_from (least + length xs) ys
 entries_append least [] ys = ap (λ (n : ℕ). entries_from n ys) (omega arith)
 entries_append least (n ∷ xs) ys = by_count (nat_eq n 0) (entries_append (least + 1) xs ys ∙ ap (λ (k : ℕ). entries_from (least + 1) xs ++ entries_from k ys) (omega arith))
   where

@@ -13,6 +13,7 @@ use Rattle.vm_isa.specs.Means.{Meaning, Placed, Fillable, accessed_by, placed, p
 use Rattle.vm_isa.specs.Slots.{slots_of}
 use Rattle.vm_isa.proofs.MeansLaws.{whole}
 use Rattle.vm_isa.proofs.NextLaws.{meant}
+use Rattle.air_core.specs.declared.bus.TheConstants.{EXECUTION, MEMORY}
 use Rattle.air_core.specs.declared.event.Event.{Event}
 use Rattle.air_core.specs.declared.hint.HintWord.{HintWord}
 use Rattle.air_core.specs.Hint.{NoHint, IsHint, Writes}
@@ -92,9 +93,9 @@ one_later bits time slots few low = let up : 2 ^ bits ≤ 2 ^ 29 = pow_mono few 
 writes : (d : StepRecord) (events : List Event) → Recorded d events → (a : Second d) → field_add d.time 1 ≡ d.time + 1 → Writes d.time (word_left d 1) events
 writes d events said a later =
     let b = a.access in
-    let event = sent 2 1 (b.access.space ∷ b.access.pointer ∷ (b.access.new ++ (b.time ∷ []))) in
-    let there : Contains events event = stands 2 event events (flat_map record_events d.accesses) said.memory (member_piece record_events b event d.accesses a.stands (inr (inl refl))) in
-    let made : ℕ → List ℕ → ℕ → Event = λ space word time. sent 2 1 (space ∷ b.access.pointer ∷ (word ++ (time ∷ []))) in
+    let event = sent MEMORY 1 (b.access.space ∷ b.access.pointer ∷ (b.access.new ++ (b.time ∷ []))) in
+    let there : Contains events event = stands MEMORY event events (flat_map record_events d.accesses) said.memory (member_piece record_events b event d.accesses a.stands (inr (inl refl))) in
+    let made : ℕ → List ℕ → ℕ → Event = λ space word time. sent MEMORY 1 (space ∷ b.access.pointer ∷ (word ++ (time ∷ []))) in
     record {
       pointer = b.access.pointer;
       written = subst (λ (e : Event). Contains events e)
@@ -104,6 +105,6 @@ writes d events said a later =
 pub record_hint : (bits : ℕ) (d : StepRecord) (events : List Event) → bits ≤ 29 → Fillable bits d → Recorded d events → d.instr.op ≡ 37 → IsHint (hint_word d) events
 record_hint bits d events few f said h = record {
   opcode = sends_by 37 d.instr events said.program ∙ ap (λ (op : ℕ). nat_eq op 37) h;
-  time = record { pc = d.instr.pc; received_at = stands 0 (received 0 1 (d.instr.pc ∷ d.time ∷ [])) events _ said.path (inl refl) };
+  time = record { pc = d.instr.pc; received_at = stands EXECUTION (received EXECUTION 1 (d.instr.pc ∷ d.time ∷ [])) events _ said.path (inl refl) };
   word = writes d events said (second_of bits d f h) (one_later bits d.time (slots_of d.instr.op) few f.ends);
 }

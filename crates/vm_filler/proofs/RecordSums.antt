@@ -7,6 +7,7 @@ use Rattle.vm_isa.specs.declared.access.TimedAccess.{TimedAccess}
 use Rattle.vm_isa.specs.declared.record.StepRecord.{StepRecord}
 use Rattle.vm_isa.specs.Instr.{numbers_of}
 use Rattle.vm_isa.specs.Slots.{slots_of}
+use Rattle.air_core.specs.declared.bus.TheConstants.{PROGRAM}
 use Rattle.air_core.specs.declared.event.Event.{Event}
 use Rattle.air_core.specs.declared.event.Side.{Side}
 use Rattle.air_core.specs.declared.event.Side.TheVariants.{Send, Receive}
@@ -53,7 +54,7 @@ module _ (d : StepRecord) (events : List Event) (said : Recorded d events) (tupl
   program_sent : total Send 1 tuple events ≡ once (same_tuple (numbers_of d.instr) tuple)
   program_sent =
       sym (total-on_bus Send 1 tuple events) ∙ ap (total Send 1 tuple) said.program
-      ∙ total-cons Send 1 tuple (sent 1 1 (numbers_of d.instr)) [] ∙ omega arith
+      ∙ total-cons Send 1 tuple (sent PROGRAM 1 (numbers_of d.instr)) [] ∙ omega arith
 
 -- ---- all records: `of` are the events of each
 

@@ -17,9 +17,7 @@ use Rattle.vm_filler.specs.Tables.{filled_rows, zero_row, IsHeight}
 use Rattle.vm_filler.specs.Filling.{with_rows, TableFilled}
 use Rattle.vm_filler.specs.Lookups.{LookupCounts, CountLookups, events_left}
 use Rattle.vm_filler.proofs.Limits.{rows_length}
-
-abbrev no_table : TableRows
-no_table = record { width = 0; rows = [] }
+use Rattle.vm_filler.proofs.TablesLemmas.{no_table}
 
 abbrev same_but : Contents → List TableRows → Contents
 same_but c tables = record { tables = tables; program = c.program; xor = c.xor; range = c.range; constants = c.constants }

@@ -32,6 +32,7 @@ use Rattle.vm_filler.specs.Tables.{filled_rows, zero_row, IsFilledTable, AreFill
 use Rattle.vm_filler.proofs.Exchange.{weight_both}
 use Rattle.vm_filler.proofs.Lawful.{Lawful}
 use Rattle.vm_filler.proofs.Owners.{others_silent, owner_says, second_owns}
+use Rattle.vm_filler.proofs.PushLemmas.{same_itself}
 use Rattle.vm_filler.proofs.RecordHints.{hint_word, record_no_hint, record_hint}
 
 -- the words that a record takes, and those of them that the rows of a table spell
@@ -139,10 +140,6 @@ flag_itself : (a : Bool) → same_flag a a ≡ true
 flag_itself true = refl
 flag_itself false = refl
 
-word_itself : (xs : List ℕ) → pointwise nat_eq xs xs ≡ true
-word_itself [] = refl
-word_itself (x ∷ xs) = rw (eq-eqb x x refl) (word_itself xs)
-
 made : ℕ → List ℕ → Bool → HintWord
 made time word next = record { time = time; word = word; next = next }
 
@@ -162,7 +159,7 @@ hint_sound a b h =
 hint_equality : IsEquality same_hint
 hint_equality = record {
   sound = hint_sound;
-  itself = λ a. rw (eq-eqb a.time a.time refl, word_itself a.word, flag_itself a.next) refl;
+  itself = λ a. rw (eq-eqb a.time a.time refl, same_itself a.word, flag_itself a.next) refl;
 }
 
 module _ (h : HintWord) where

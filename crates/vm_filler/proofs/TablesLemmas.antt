@@ -18,7 +18,7 @@ use Rattle.vm_filler.specs.Filling.{with_rows, TableFilled, FilledTables, withou
 use Rattle.vm_filler.specs.Lookups.{LookupCounts, CountLookups, events_left}
 
 -- behind the last table
-abbrev no_table : TableRows
+abbrev pub no_table : TableRows
 no_table = record { width = 0; rows = [] }
 
 -- rows of zero_row say nothing

@@ -32,9 +32,9 @@ impl Counts {
     fn new(alloc: Global, rows: usize) -> Result<Counts, OutOfMemory>
         ensures { IfOk result (λ made. made ≡ replicate rows 0) }
     {
-        Ok(Counts {
-            items: vec![in alloc; 0u32; rows]?,
-        })
+        let mut items = Vec::new(alloc);
+        items.resize(rows, 0)?;
+        Ok(Counts { items })
     }
 
     fn as_slice(&self) -> &[u32]

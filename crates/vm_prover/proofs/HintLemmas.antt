@@ -13,7 +13,7 @@ use Rattle.vm_isa.specs.Words.{IsBytes}
 use Rattle.vm_isa.proofs.MeansLaws.{whole}
 use Rattle.vm_isa.proofs.NextLaws.{meant}
 use Rattle.vm_transpile.proofs.Kept.{all_take, all_drop}
-use Rattle.vm_executor.proofs.SinceLemmas.{placed_same}
+use Rattle.vm_executor.proofs.StepLemmas.{placed_same}
 use Rattle.vm_executor.specs.Machine.{Machine, Goes}
 use Rattle.acceptance.specs.Spelled.{HintEvent, Word, hints_before, low_byte}
 use Rattle.acceptance.proofs.Hints.{hint_places}

@@ -1,10 +1,11 @@
 -- A run ends in one way.
-use Rattle.std.proofs.Common.{◌≡◌, ℕ, zero, suc, ◌≤◌, ◌<◌, Bool, List, [], ◌∷◌, ◌++◌, length, refl, sym, ap, ◌∙◌, subst, arith}
+use Rattle.std.proofs.Common.{◌≡◌, ℕ, ◌≤◌, ◌<◌, Bool, List, [], ◌∷◌, ◌++◌, length, refl, sym, ap, ◌∙◌, subst, arith}
 use Rattle.elf_image.specs.Loaded.{Loaded}
 use Rattle.rv_run.specs.declared.outcome.Trap.{Trap}
 use Rattle.rv_run.specs.Machine.{Machine, start}
 use Rattle.rv_run.specs.Step.{ends, goes, step_of, traps}
 use Rattle.rv_run.specs.Run.{Goes}
+use Rattle.rv_run.proofs.Runs.{goes_is_one}
 use Rattle.vm_prover.specs.Cut.{CutsTo, StepsLead, cut}
 use Rattle.vm_prover.specs.declared.proving.Proved.{Proved}
 use Rattle.vm_prover.specs.declared.proving.Proving.TheVariants as proving
@@ -22,13 +23,6 @@ end_stops loaded m code e next g = let no : ends code ≡ goes next = sym e ∙ 
 
 trap_stops : (loaded : Loaded) (m : Machine) (trap : Trap) → step_of loaded m ≡ traps trap → Stops loaded m
 trap_stops loaded m trap e next g = let no : traps trap ≡ goes next = sym e ∙ g in absurd (cc)
-
-goes_is_one : (loaded : Loaded) (hints : List ℕ) (n : ℕ) (a b : Machine) → Goes loaded hints n a → Goes loaded hints n b → a ≡ b
-goes_is_one loaded hints zero a b x y = x ∙ sym y
-goes_is_one loaded hints (suc n) a b x y =
-    let before : x.0 ≡ y.0 = goes_is_one loaded hints n x.0 y.0 x.1 y.1 in
-    let step : goes a ≡ goes b = sym x.2 ∙ ap (step_of loaded) before ∙ y.2 in
-    cc
 
 same_next : (loaded : Loaded) (from a b : Machine) → step_of loaded from ≡ goes a → step_of loaded from ≡ goes b → b ≡ a
 same_next loaded from a b x y = let step : goes b ≡ goes a = sym y ∙ x in cc

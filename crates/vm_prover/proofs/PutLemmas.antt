@@ -30,10 +30,6 @@ put_elsewhere : (m : Leaves) (label : ℕ) (bytes : List ℕ) (j : ℕ) → labe
 unfolding put_at
 put_elsewhere m label bytes j other = rw (ne_eqb label j other) refl
 
-no_pages : (m : Leaves) (j : ℕ) → with_pages m [] j ≡ m j
-unfolding with_pages replaced labels_of
-no_pages m j = refl
-
 later_label : (p : Touched) (ps : List Touched) (k : ℕ) (page : Touched) → AllPairs (λ x y. x < y) (map label_of (p ∷ ps)) → slice_get ps k ≡ Some page → p.label < page.label
 later_label p ps k page up stands =
     let within : k < length ps = slice_get_within ps k page stands in

@@ -6,16 +6,13 @@ use Rattle.air_core.specs.System.{System}
 use Rattle.vm_transpile.specs.Program.{program_of}
 use Rattle.vm_executor.specs.declared.machine.Machined.{Machined}
 use Rattle.vm_executor.specs.declared.machine.Machined.TheVariants.{Went, Ended, Stuck}
-use Rattle.vm_executor.specs.Machine.{Machine, Goes, begun}
+use Rattle.vm_executor.specs.Machine.{Machine, Goes}
 use Rattle.vm_executor.specs.Runs.{IsWent}
 use Rattle.vm_executor.specs.State.{IsStep}
 use Rattle.vm_prover.specs.Progress.{UnderWay}
 use Rattle.vm_prover.specs.Segments.{AreTaken, GoesOnFor, Run}
 use Rattle.vm_prover.proofs.EndLemmas.{ending_runs_go_on}
 use Rattle.vm_prover.proofs.StepLemmas.{records_go_on}
-
-pub none_taken : (x : System) (run : Run x) (program : List VmInstr) (from m : Machine) (steps count : ℕ) → GoesOnFor run program from steps count → m ≡ begun from → AreTaken run from steps 0 [] m
-none_taken x run program from m steps count g is = record { under = subst (UnderWay x run.image run.hints from steps []) (sym is) g.under; count_is = refl }
 
 -- what the machine answers, over the program that it keeps
 pub record Answers (program : List VmInstr) (s t : Machine) (answer : Machined) : Type 0 where

@@ -156,13 +156,6 @@ not_begun x version image hints ending name s t e b = record {
   whole = tt;
 }
 
-pub is_begun : (version : ℕ) (name : List ℕ) (s t : HostState) (w : TableWriter) → Begins version name s t (Ok w) → IsBegun w t
-is_begun version name s t w b = record {
-  told = subst (λ v. IfSome t.output.written (λ bytes. bytes ≡ head_text v)) (sym b.writer.0) b.whole.1;
-  creating = b.whole.0;
-  writing = record { version_is = refl; unfinished = b.writer.1; sound = b.writer.2 };
-}
-
 noted : (old new : Option (List (Place × List ℕ))) (pair : Place × List ℕ) (w : TableWriter) → Notes old new pair (Ok w) → new ≡ then_more old (pair ∷ [])
 noted old new pair w (inl is) = is
 noted old new pair w (inr refused) = let no : Ok w ≡ Err OutOfMemory = refused.0 in absurd (cc)

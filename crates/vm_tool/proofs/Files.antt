@@ -1,12 +1,11 @@
 -- Opening and reading one file.
-use Rattle.std.proofs.Common.{◌≡◌, ◌≢◌, ℕ, ◌<◌, ◌≤◌, List, [], ◌∷◌, length, refl, ap, ◌∙◌, arith, IfSome, Ok, Err, subst, sym, inl, inr}
+use Rattle.std.proofs.Common.{◌≡◌, ◌≢◌, ℕ, ◌<◌, ◌≤◌, List, [], ◌∷◌, length, refl, ap, ◌∙◌, arith, IfSome, Err, subst, sym}
 use Rattle.std.specs.declared.option.Option.{Option}
 use Rattle.vm_host.specs.declared.Slot.{Slot}
-use Rattle.vm_host.specs.declared.Place.{Place}
 use Rattle.vm_host.specs.declared.ReadError.TheVariants.{TooLong}
 use Rattle.vm_host.specs.Names.{place_of}
-use Rattle.vm_host.specs.State.{HostState, Input, then_more}
-use Rattle.vm_host.specs.Calls.{Opens, Notes, KeepsOther, Rose}
+use Rattle.vm_host.specs.State.{HostState, Input}
+use Rattle.vm_host.specs.Calls.{KeepsOther, Rose}
 use Rattle.vm_host.specs.ReadUpTo.{Took, ReadsUpTo}
 use Rattle.elf_image.specs.declared.ImageError.{ImageError}
 use Rattle.elf_image.specs.declared.ImageError.TheVariants.{Short, Magic, Class, Order, FileType, Machine, Compressed, HeaderSize, HeaderTable, SegmentSize, Truncated, Range, Overlap, TextSize, Entry, OutOfMemory}
@@ -18,18 +17,6 @@ use Rattle.vm_tool.specs.declared.answer.Halt.{Halt}
 use Rattle.vm_tool.specs.declared.answer.Halt.TheVariants.{Found, Host}
 use Rattle.vm_tool.specs.ReadFile.{Quiet, IsOpened, ReadWhole, ReadNone, HaltsAt}
 use Rattle.vm_tool.proofs.Quiet.{long_content}
-
-noted_at_ok : {T : Type 0} (old new : Option (List (Place × List ℕ))) (pair : Place × List ℕ) (x : T) → Notes old new pair (Ok x) → new ≡ then_more old (pair ∷ [])
-noted_at_ok old new pair x (inl same) = same
-noted_at_ok old new pair x (inr other) = absurd (cc (other.0))
-
--- an open that succeeds
-pub opened : {T : Type 0} (slot : Slot) (name : List ℕ) (s t : HostState) (x : T) → Opens slot name s t (Ok x) → IsOpened slot name s t
-opened slot name s t x o = record {
-  input = o.opened;
-  other = o.other;
-  quiet = record { later = o.cause.later; named = noted_at_ok s.named t.named (place_of slot, name) x o.named; frame = o.frame };
-}
 
 -- what is known after an input was opened and read from
 pub record OpenedAndRead (slot : Slot) (name : List ℕ) (s u : HostState) : Type 0 where

@@ -7,6 +7,7 @@ use Rattle.elf_image.specs.declared.ImageError.{ImageError}
 use Rattle.elf_image.specs.declared.ImageError.TheVariants as image
 use Rattle.rv_run.specs.declared.outcome.Cause.{Cause}
 use Rattle.rv_run.specs.declared.outcome.Cause.TheVariants as cause
+use Rattle.rv_run.specs.declared.outcome.Trap.{Trap}
 use Rattle.vm_host.specs.declared.HostError.{HostError}
 use Rattle.vm_host.specs.declared.HostError.TheVariants as host
 use Rattle.table_format.specs.Reasons.{reason_text}
@@ -89,6 +90,10 @@ line_of_sample number steps code digits segments =
     codes "sample " ++ decimal number ++ codes " steps " ++ decimal steps ++ codes " exit " ++ decimal code
     ++ codes " public " ++ digits ++ codes " segments " ++ decimal segments ++ codes "\n"
 
+-- a trap: its cause, and its pc as eight digits
+abbrev pub line_of_trap : Trap → List ℕ
+line_of_trap trap = codes "trap " ++ cause_text trap.cause ++ codes " at " ++ encode_lower (to_be_bytes w32 trap.pc) ++ codes "\n"
+
 -- the line or lines that are said
 abbrev pub text_of : Answer → List ℕ
 text_of answer.Words = codes "words\n"
@@ -101,8 +106,7 @@ text_of (answer.Accepted accepted) = line_of_accepted accepted.code (encode_lowe
 text_of (answer.Proved claim) = line_of_proved claim.code (encode_lower claim.public) claim.segments claim.steps
 text_of (answer.Sampled number claim) = line_of_sample number claim.steps claim.code (encode_lower claim.public) claim.segments
 text_of (answer.Rejected reason) = codes "rejected " ++ reason_text reason ++ codes "\n"
-text_of (answer.Trapped trap) =
-    codes "trap " ++ cause_text trap.cause ++ codes " at " ++ encode_lower (to_be_bytes w32 trap.pc) ++ codes "\n"
+text_of (answer.Trapped trap) = line_of_trap trap
 text_of answer.SegmentLimit = codes "limit segments 4096\n"
 text_of (answer.StepLimit limit) = codes "limit steps " ++ decimal limit ++ codes "\n"
 

@@ -1,7 +1,8 @@
 // What the program answers: a status and a line.
-ghost use Rattle.std.specs.Prelude.{◌≡◌, IfOk, string_bytes};
+ghost use Rattle.std.specs.Prelude.{◌≡◌, length, IfOk, string_bytes};
+ghost use Rattle.hex.specs.Hex.{encode_lower};
 ghost use Rattle.vm_tool.specs.Listing.{line_of_row, listing_of};
-ghost use Rattle.vm_tool.specs.Answer.{status_of, status_of_error, text_of, refusal_text, cause_text, line_of_exit, line_of_claim, line_of_sample, code_of};
+ghost use Rattle.vm_tool.specs.Answer.{status_of, status_of_error, text_of, refusal_text, cause_text, line_of_accepted, line_of_claim, line_of_exit, line_of_proved, line_of_sample, line_of_trap, code_of};
 
 use elf_image::ImageError;
 use rv_run::{Cause, Trap};
@@ -134,31 +135,8 @@ impl Answer {
                 exit_line(alloc, *code, &digits, *steps)
             }
             Answer::Listing(program) => listing(alloc, program),
-            Answer::Accepted(accepted) => {
-                let digits = hex::encode(alloc, accepted.public.as_slice())?;
-                let hints = accepted.hints.as_slice().len();
-                claim_line(
-                    alloc,
-                    "accepted",
-                    accepted.code,
-                    &digits,
-                    accepted.segments,
-                    "hint-bytes",
-                    hints as u64,
-                )
-            }
-            Answer::Proved(claim) => {
-                let digits = hex::encode(alloc, claim.public.as_slice())?;
-                claim_line(
-                    alloc,
-                    "proved",
-                    claim.code,
-                    &digits,
-                    claim.segments,
-                    "steps",
-                    claim.steps,
-                )
-            }
+            Answer::Accepted(accepted) => accepted_line(alloc, accepted),
+            Answer::Proved(claim) => proved_line(alloc, claim),
             Answer::Sampled { number, claim } => {
                 let digits = hex::encode(alloc, claim.public.as_slice())?;
                 sample_line(alloc, *number, claim, &digits)
@@ -168,11 +146,7 @@ impl Answer {
                 let reason = reason.text(alloc)?;
                 format!(in alloc; "rejected {reason}\n")
             }
-            Answer::Trapped(Trap { cause, pc }) => {
-                let digits = hex::encode(alloc, pc.to_be_bytes().as_slice())?;
-                let cause = cause_name(*cause);
-                format!(in alloc; "trap {cause} at {digits}\n")
-            }
+            Answer::Trapped(trap) => trap_line(alloc, *trap),
             Answer::StepLimit { limit } => format!(in alloc; "limit steps {limit}\n"),
         }
     }
@@ -215,6 +189,14 @@ fn cause_name(cause: Cause) -> &'static str
     }
 }
 
+fn trap_line(alloc: Global, trap: Trap) -> Result<String, AllocError>
+    ensures { IfOk result (λ text. string_bytes text ≡ line_of_trap trap) }
+{
+    let digits = hex::encode(alloc, trap.pc.to_be_bytes().as_slice())?;
+    let cause = cause_name(trap.cause);
+    format!(in alloc; "trap {cause} at {digits}\n")
+}
+
 fn exit_line(alloc: Global, code: u8, digits: &str, steps: u64) -> Result<String, AllocError>
     ensures { IfOk result (λ text. string_bytes text ≡ line_of_exit code digits.now steps) }
 {
@@ -240,6 +222,37 @@ fn claim_line(
     let end = format!(in alloc; " segments {segments} {counted} {count}\n")?;
     line.push_str(&end)?;
     Ok(line)
+}
+
+fn accepted_line(alloc: Global, accepted: &Accepted) -> Result<String, AllocError>
+    ensures { IfOk result (λ text. string_bytes text ≡ line_of_accepted accepted.now.code (encode_lower accepted.now.public) accepted.now.segments (length accepted.now.hints)) }
+{
+    let digits = hex::encode(alloc, accepted.public.as_slice())?;
+    let hints = accepted.hints.as_slice().len();
+    claim_line(
+        alloc,
+        "accepted",
+        accepted.code,
+        &digits,
+        accepted.segments,
+        "hint-bytes",
+        hints as u64,
+    )
+}
+
+fn proved_line(alloc: Global, claim: &Proved) -> Result<String, AllocError>
+    ensures { IfOk result (λ text. string_bytes text ≡ line_of_proved claim.now.code (encode_lower claim.now.public) claim.now.segments claim.now.steps) }
+{
+    let digits = hex::encode(alloc, claim.public.as_slice())?;
+    claim_line(
+        alloc,
+        "proved",
+        claim.code,
+        &digits,
+        claim.segments,
+        "steps",
+        claim.steps,
+    )
 }
 
 fn sample_line(

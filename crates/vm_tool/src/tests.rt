@@ -1,5 +1,8 @@
 mod instructions;
 mod proving;
+mod proving_forged;
+mod proving_programs;
+mod proving_sample;
 mod table_files;
 
 use crate::answer::Status;
@@ -36,6 +39,19 @@ fn host(alloc: Global, elf: Vec<u8>, failing: &[u64]) -> Result<MemoryHost, Allo
     files.push(named(alloc, "hints", Vec::new(alloc))?)?;
     files.push(named(alloc, "four", twelve[..4].to_vec(alloc)?)?)?;
     files.push(named(alloc, "twelve", twelve.to_vec(alloc)?)?)?;
+    Ok(MemoryHost::new(alloc, files, failing.to_vec(alloc)?))
+}
+
+// A host with this ELF file and this second file, and calls that fail.
+fn host_of(
+    alloc: Global,
+    elf: &[u8],
+    second: &[u8],
+    failing: &[u64],
+) -> Result<MemoryHost, AllocError> {
+    let mut files = Vec::new(alloc);
+    files.push(named(alloc, "elf", elf.to_vec(alloc)?)?)?;
+    files.push(named(alloc, "second", second.to_vec(alloc)?)?)?;
     Ok(MemoryHost::new(alloc, files, failing.to_vec(alloc)?))
 }
 

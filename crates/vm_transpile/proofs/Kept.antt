@@ -57,7 +57,7 @@ number_bytes Sw w = word_bytes w
 Bytes : (ℕ → ℕ) → Type 0
 Bytes m = (a : ℕ) → m a < 256
 
-choice_byte : (b : Bool) (x y : ℕ) → x < 256 → y < 256 → cond b x y < 256
+pub choice_byte : (b : Bool) (x y : ℕ) → x < 256 → y < 256 → cond b x y < 256
 choice_byte true x y p q = p
 choice_byte false x y p q = q
 

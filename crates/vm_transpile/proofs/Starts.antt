@@ -1,5 +1,5 @@
 -- Both machines start in the same state.
-use Rattle.std.proofs.Common.{◌≡◌, ℕ, zero, suc, ◌+◌, ◌-◌, ◌*◌, ◌^◌, ◌<◌, ◌≤◌, Bool, true, false, cond, List, [], ◌∷◌, All, take, drop, replicate, filter, inl, inr, refl, sym, ap, ◌∙◌, subst, arith}
+use Rattle.std.proofs.Common.{◌≡◌, ℕ, zero, suc, ◌+◌, ◌-◌, ◌*◌, ◌^◌, ◌<◌, ◌≤◌, List, [], ◌∷◌, All, take, drop, replicate, filter, inl, inr, refl, sym, ap, ◌∙◌, subst, arith}
 use Rattle.std.specs.Prelude.{nat_lt, slice_index, slice_range}
 use Rattle.std.proofs.lemmas.List.Sorted.{All-permutation}
 use Rattle.std.proofs.lemmas.List.{length-replicate, drop-replicate, take-replicate}
@@ -14,7 +14,7 @@ use Rattle.vm_transpile.specs.Start.{vm_start}
 use Rattle.vm_transpile.specs.Same.{IsMachine, Same}
 use Rattle.vm_transpile.specs.Refines.{StartsAreSame}
 use Rattle.vm_transpile.proofs.Ranges.{all_from_in}
-use Rattle.vm_transpile.proofs.Kept.{all_take, all_drop, byte_at}
+use Rattle.vm_transpile.proofs.Kept.{all_take, all_drop, byte_at, choice_byte}
 
 -- ---- the image's bytes
 
@@ -34,15 +34,11 @@ image_bytes bytes loaded h image load at =
     let all : All HasBytes file = all_from_in HasBytes file (λ l k. file_bytes bytes h l (in_from_filter (λ (l : Load). nat_lt 0 l.size) l (in_file bytes).loads k)) in
     All_in HasBytes loaded.loads (All-permutation HasBytes file loaded.loads image.loads all) load at
 
-byte_by : (b : Bool) (x y : ℕ) → x < 256 → y < 256 → cond b x y < 256
-byte_by true x y p q = p
-byte_by false x y p q = q
-
 byte_small : (loads : List Load) → ((load : Load) → In load loads → HasBytes load) → (address : ℕ) → byte_in loads address < 256
 unfolding HasBytes
 byte_small [] h address = omega arith
 byte_small (load ∷ rest) h address =
-    byte_by (gives load address) (slice_index load.bytes (address - load.address)) (byte_in rest address) (byte_at load.bytes (address - load.address) (h load (inl refl)))
+    choice_byte (gives load address) (slice_index load.bytes (address - load.address)) (byte_in rest address) (byte_at load.bytes (address - load.address) (h load (inl refl)))
     (byte_small rest (λ l k. h l (inr k)) address)
 
 -- ---- zeros
@@ -52,7 +48,7 @@ zero_at zero r = refl
 zero_at (suc n) zero = refl
 zero_at (suc n) (suc r) = zero_at n r
 
-zero_bytes : (n : ℕ) → IsBytes (replicate n 0)
+pub zero_bytes : (n : ℕ) → IsBytes (replicate n 0)
 zero_bytes zero = tt
 zero_bytes (suc n) = (omega arith, zero_bytes n)
 

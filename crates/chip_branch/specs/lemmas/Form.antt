@@ -1,40 +1,116 @@
--- A condition with its laws is a form with its laws.
-use Rattle.std.proofs.Common.{◌≡◌, ◌≢◌, ℕ, ◌+◌, ◌*◌, ◌%◌, ◌^◌, ◌<◌, ◌≤◌, true, false, nat_eq, List, [], ◌∷◌, ◌++◌, Some, length, map, replicate, slice_index, refl, sym, ap, subst, ◌∙◌, arith, lit≤, lit<, length-append, append_assoc}
+-- A condition with its laws is a form with its laws: what a row of a branch tells, bounds, and what a record fills.
+use Rattle.std.proofs.Common.{◌≡◌, ℕ, ◌+◌, ◌^◌, ◌≤◌, ◌<◌, true, false, List, [], ◌∷◌, length, slice_index, refl, sym, ap, ◌∙◌, arith, lit<, lit≤, ◌%◌, nat_eq, ◌++◌, Some, map, replicate, subst, length-append}
+use Rattle.std.specs.Int.{from_bool}
 use Rattle.std.specs.List.{AllByRecursion}
-use Rattle.vm_field.specs.Field.{modulus}
+use Rattle.vm_field.specs.Field.{field_mul, modulus}
 use Rattle.vm_field.specs.declared.limbs.Limbs.{Limbs}
 use Rattle.vm_field.specs.Limbs.{list_of, limbs_by, limbs_from}
 use Rattle.vm_field.proofs.Constraints.{gate_off}
 use Rattle.vm_field.proofs.LimbLemmas.{list_of-from}
 use Rattle.vm_word.specs.Word.{word_of_limbs}
-use Rattle.vm_isa.specs.declared.access.TimedAccess.{TimedAccess}
 use Rattle.vm_isa.specs.declared.instr.VmInstr.{VmInstr}
-use Rattle.vm_isa.specs.declared.record.StepRecord.{StepRecord}
+use Rattle.vm_isa.specs.Instr.{numbers_of, InRange}
 use Rattle.vm_isa.specs.Opcodes.{is_branch, HINT, HINT_NEXT}
 use Rattle.vm_isa.specs.Results.{is_taken}
+use Rattle.vm_isa.specs.Words.{IsBytes, IsWord}
+use Rattle.vm_isa.specs.declared.access.TimedAccess.{TimedAccess}
+use Rattle.vm_isa.specs.declared.record.StepRecord.{StepRecord}
 use Rattle.vm_isa.specs.Slots.{slots_of}
-use Rattle.vm_isa.specs.Words.{IsWord, IsBytes}
-use Rattle.vm_isa.specs.Instr.{numbers_of, InRange}
 use Rattle.vm_isa.specs.Means.{Fillable}
-use Rattle.air_core.specs.declared.event.Event.{Event}
 use Rattle.air_core.specs.Flags.{sum_from, one_hot}
+use Rattle.air_core.specs.Ring.{field, cell, cells}
+use Rattle.air_core.specs.Step.{Touched, IsMeaning}
+use Rattle.air_core.specs.lemmas.Cells.{cells_below, cells_back, cells_of_zeros, index_zeros, behind}
+use Rattle.air_core.specs.lemmas.OneHot.{sum_one, at_place, is_place, of_owned, zeros_hold}
+use Rattle.air_core.specs.declared.event.Event.{Event}
 use Rattle.air_core.specs.FlagLaws.{sum_none}
 use Rattle.air_core.specs.ListLemmas.{all_append, all_weaker}
-use Rattle.air_core.specs.Ring.{field, cell, cells}
 use Rattle.air_core.specs.Sheet.{AllZero, AllBelow}
-use Rattle.air_core.specs.lemmas.Cells.{cells_back, cells_of_zeros, index_zeros, behind}
-use Rattle.air_core.specs.lemmas.OneHot.{is_place, of_owned, zeros_hold, sum_one}
 use Rattle.gadget_limbs.proofs.LimbsLaws.{bytes_below}
-use Rattle.gadget_time.specs.declared.touch.Gap.{Gap}
-use Rattle.gadget_time.specs.Told.{touch_constraint, time_constraint, MadeByAll, gap_filled}
+use Rattle.gadget_time.specs.Told.{touched_of, touch_constraint, time_constraint}
+use Rattle.gadget_time.specs.Laws.{CountsSmall}
 use Rattle.gadget_time.specs.Form.{Columns, valid_of, owns_of, filled_columns, no_columns}
-use Rattle.gadget_time.specs.FormLaws.{FormLaws, FormBounds, IsOther, TellsDone, NoHints}
+use Rattle.gadget_time.specs.FormLaws.{IsAt, FormHolds, InstructionAt, Tells, FormLaws, FormBounds, IsOther, TellsDone, NoHints}
+use Rattle.gadget_time.specs.declared.touch.Gap.{Gap}
 use Rattle.adapter_regs.specs.Core.{Operands, operands, IsLookup}
-use Rattle.adapter_regs.specs.Regs.{gap_by, gap_of, gap_cells, access_at, register_touch, limbs_of_zero}
-use Rattle.adapter_regs.specs.lemmas.Access.{filled_access, leads_to}
-use Rattle.chip_branch.specs.Branch.{Condition, ConditionLaws, branch_form, branch_numbers, branch_touches, operands_of, left_of, right_of, left_filled, right_filled, place_filled, own_filled, words_filled, times_filled, no_operands, taken_at, AConditionIsAForm}
-use Rattle.chip_branch.specs.lemmas.Means.{apart, branch_shape, branch_meaning}
-use Rattle.chip_branch.specs.lemmas.Sound.{touches_quiet, branch_tells, branch_means}
+use Rattle.adapter_regs.specs.Next.{next_by}
+use Rattle.adapter_regs.specs.lemmas.Access.{pointer, leads_to, filled_access}
+use Rattle.adapter_regs.specs.Regs.{gap_of, gap_cells, access_at, register_touch, limbs_of_zero}
+use Rattle.chip_branch.specs.Branch.{Condition, ConditionLaws, branch_form, branch_numbers, branch_touches, operands_of, left_of, right_of, taken_at, left_filled, right_filled, place_filled, own_filled, no_operands, AConditionIsAForm}
+use Rattle.chip_branch.specs.lemmas.Means.{means_branch, apart, branch_shape, branch_meaning}
+
+-- the program tuple read as an instruction
+record IsInstr (at op : ℕ) (rest : List ℕ) (i : VmInstr) : Type 0 where
+  pc : at ≡ i.pc
+  op_is : op ≡ i.op
+  rs1 : cell field rest 0 ≡ i.rs1
+  rs2 : cell field rest 1 ≡ i.rs2
+  target : cell field rest 2 ≡ i.target
+
+is_instr : (pc op : ℕ) (rest : List ℕ) (i : VmInstr) → pc ∷ op ∷ branch_numbers field rest ≡ numbers_of i → IsInstr pc op rest i
+unfolding branch_numbers numbers_of
+is_instr pc op rest i e = record { pc = cc; op_is = cc; rs1 = cc; rs2 = cc; target = cc }
+
+touches_quiet : (own valid : ℕ) (rest : List ℕ) → valid ≡ 0 → AllByRecursion (λ a. a.count ≡ 0) (branch_touches field own valid rest)
+unfolding branch_touches
+touches_quiet own valid rest v = (v, (v, tt))
+
+abbrev touched_by : ℕ → List ℕ → List Touched
+touched_by own rest =
+    record { slot = 0; space = 1; pointer = field_mul 4 (cell field rest 0); old = list_of (left_of field rest); new = list_of (left_of field rest); before = cell field rest (11 + own) }
+    ∷ record { slot = 1; space = 1; pointer = field_mul 4 (cell field rest 1); old = list_of (right_of field rest); new = list_of (right_of field rest); before = cell field rest (14 + own) }
+    ∷ []
+
+touched_is : (own valid : ℕ) (rest : List ℕ) → valid ≡ 1 → touched_of (branch_touches field own valid rest) ≡ touched_by own rest
+unfolding branch_touches
+touched_is own valid rest v = rw v refl
+
+counts_small : (own valid : ℕ) (rest : List ℕ) → valid ≡ 1 → CountsSmall (branch_touches field own valid rest)
+unfolding branch_touches
+counts_small own valid rest v = (omega (arith, v), (omega (arith, v), tt))
+
+slots_low : (own valid : ℕ) (rest : List ℕ) → AllByRecursion (λ a. a.slot < 2) (branch_touches field own valid rest)
+unfolding branch_touches
+slots_low own valid rest = (lit< tt, (lit< tt, tt))
+
+module _ (condition : Condition) (laws : ConditionLaws condition) (k : ℕ) (c : Columns ℕ) (at : IsAt (branch_form condition) k c) (holds : FormHolds (branch_form condition) c) (i : InstructionAt (branch_form condition) k c) where
+  abbrev o : Operands ℕ
+  o = operands_of field condition.own c
+
+  abbrev op : ℕ
+  op = slice_index condition.opcodes k
+
+  v : valid_of field c ≡ 1
+  v = ap (sum_from field 0) at.flags ∙ sum_one (length condition.opcodes) k at.below
+
+  is : IsInstr c.pc op c.rest i.instr
+  is = is_instr c.pc op c.rest i.instr i.are
+
+  branch_tells : Tells (branch_form condition) c
+  branch_tells = record {
+    accesses = touched_by condition.own c.rest;
+    counts = counts_small condition.own (valid_of field c) c.rest v;
+    slots = slots_low condition.own (valid_of field c) c.rest;
+    are = touched_is condition.own (valid_of field c) c.rest v;
+    rising = (lit≤ tt, lit< tt, (lit≤ tt, lit< tt, tt));
+    new_bytes = λ x. (x, λ y. (y, tt));
+  }
+
+  taken : IsBytes (list_of o.left) → IsBytes (list_of o.right) → condition.parts.taken o ≡ from_bool (is_taken i.instr.op (word_of_limbs (list_of o.left)) (word_of_limbs (list_of o.right)))
+  taken left right =
+      laws.sound k o (record { below = at.below; flags = at.flags; own_below = cells_below c.rest at.rest_below 11 condition.own; left = left; right = right }) holds.zero holds.good
+      ∙ ap (λ (x : ℕ). taken_at x o) is.op_is
+
+  branch_means : AllByRecursion (λ a. IsBytes a.old) branch_tells.accesses → IsMeaning i.instr branch_tells.accesses ((branch_form condition).parts.next c)
+  unfolding branch_tells
+  branch_means old =
+      let range = i.in_range in
+      let branch : is_branch i.instr.op ≡ true = ap is_branch (sym is.op_is) ∙ at_place (λ x. is_branch x ≡ true) condition.opcodes k at.below laws.branches in
+      let e0 = pointer (cell field c.rest 0) i.instr.rs1 is.rs1 range.rs1 in
+      let e1 = pointer (cell field c.rest 1) i.instr.rs2 is.rs2 range.rs2 in
+      let n = ap (λ (x : ℕ). next_by field x (cell field c.rest 2) (condition.parts.taken o)) is.pc ∙ ap (λ (x : ℕ). next_by field i.instr.pc x (condition.parts.taken o)) is.target
+      ∙ leads_to (is_taken i.instr.op (word_of_limbs (list_of o.left)) (word_of_limbs (list_of o.right))) i.instr.pc i.instr.target (condition.parts.taken o) (taken old.0 old.1.0) range.low range.target in
+      ([], means_branch i.instr (list_of o.left) (list_of o.right) [] branch ∙ rw (e0, e1, n) refl)
 
 each : {X : Type 0} (P Q : X → Type 0) → ((x : X) → P x → Q x) → (xs : List X) → AllByRecursion P xs → AllByRecursion Q xs
 each P Q f xs h = all_weaker P Q f xs h

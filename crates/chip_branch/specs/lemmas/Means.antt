@@ -1,15 +1,15 @@
 -- What a branch means, and what a record of one is.
-use Rattle.std.proofs.Common.{◌≡◌, ℕ, ◌^◌, ◌<◌, Bool, true, false, ◌||◌, nat_eq, List, [], ◌∷◌, length, Some, map, refl, sym, ap, ◌∙◌, arith}
+use Rattle.std.proofs.Common.{◌≡◌, ℕ, ◌<◌, true, false, nat_eq, List, [], ◌∷◌, length, Some, map, refl, ap, ◌∙◌, arith}
 use Rattle.std.specs.Prelude.{if◌then◌else◌}
 use Rattle.std.proofs.lemmas.Bool.Decides.{nat_tests}
 use Rattle.vm_word.specs.Word.{word_of_limbs}
 use Rattle.vm_word.specs.Arithmetic.{word_sum}
 use Rattle.vm_isa.specs.declared.instr.VmInstr.{VmInstr}
 use Rattle.vm_isa.specs.declared.access.TimedAccess.{TimedAccess}
-use Rattle.vm_isa.specs.Opcodes.{is_from, is_load, is_store, is_branch, is_register, has_meaning, JAL, LUI, JALR, AUIPC, HINT, REVEAL, SHA, HINT_NEXT}
+use Rattle.vm_isa.specs.Opcodes.{is_load, is_store, is_branch, is_register, has_meaning, JAL, LUI, JALR, AUIPC, HINT, REVEAL, SHA, HINT_NEXT}
 use Rattle.vm_isa.specs.Results.{is_taken}
 use Rattle.vm_isa.specs.Slots.{slots_of}
-use Rattle.vm_isa.specs.Means.{Accessed, Meaning, Fillable, means_of, is_refused, bars_first, bars_second, places_by, accessed_by, new_at, next_of, word_at, register, placed, placed_at}
+use Rattle.vm_isa.specs.Means.{Meaning, Fillable, means_of, is_refused, bars_first, bars_second, places_by, accessed_by, new_at, next_of, word_at, register, placed, placed_at}
 use Rattle.vm_isa.proofs.RegisterForm.{reads}
 use Rattle.adapter_regs.specs.lemmas.Meant.{olds_of, means_by, as_many, recorded}
 

@@ -6,44 +6,92 @@ use Rattle.vm_field.specs.declared.limbs.Limbs.{Limbs}
 use Rattle.vm_field.specs.Limbs.{list_of, limbs_from}
 use Rattle.vm_field.proofs.Constraints.{gate_off}
 use Rattle.vm_field.proofs.LimbLemmas.{list_of-from}
-use Rattle.vm_word.specs.Word.{word_of_limbs}
+use Rattle.vm_word.specs.Word.{word_of_limbs, limbs_of}
+use Rattle.vm_isa.specs.declared.access.TimedAccess.{TimedAccess}
 use Rattle.vm_isa.specs.declared.instr.VmInstr.{VmInstr}
 use Rattle.vm_isa.specs.declared.record.StepRecord.{StepRecord}
 use Rattle.vm_isa.specs.Instr.{InRange, numbers_of, bit_of}
 use Rattle.vm_isa.specs.Means.{Fillable, address, in_block, block_address}
 use Rattle.vm_isa.specs.Opcodes.{is_load}
-use Rattle.vm_isa.specs.Results.{width_of}
+use Rattle.vm_isa.specs.Results.{width_of, extended, number_in}
 use Rattle.vm_isa.specs.Words.{IsBytes}
 use Rattle.air_core.specs.First.{bit}
+use Rattle.air_core.specs.Flags.{one_hot}
 use Rattle.air_core.specs.ListLemmas.{all_append, below_at}
 use Rattle.air_core.proofs.LookupLemmas.{good_xor}
 use Rattle.air_core.specs.Ring.{field}
 use Rattle.air_core.specs.Sheet.{AllZero, AllBelow}
 use Rattle.air_core.specs.lemmas.OneHot.{of_owned}
 use Rattle.gadget_limbs.specs.Sign.{sign_constraints}
+use Rattle.gadget_limbs.specs.SignLaws.{IsSign}
 use Rattle.gadget_limbs.proofs.SignLaws.{sign_says, sign_meets}
 use Rattle.gadget_time.specs.Access.{access_at}
 use Rattle.gadget_time.specs.Told.{touch_constraint, time_constraint, MadeByAll}
 use Rattle.gadget_time.specs.Form.{owns_of}
 use Rattle.gadget_time.specs.FormLaws.{FormLaws, NoHints}
 use Rattle.gadget_time.specs.lemmas.Access.{bytes_of, pointer}
+use Rattle.gadget_time.specs.lemmas.Meant.{olds_of, as_many}
 use Rattle.adapter_mem.specs.declared.memory.MemoryColumns.{MemoryColumns}
 use Rattle.adapter_mem.specs.Forms.{form_at, signed_by}
-use Rattle.adapter_mem.specs.Memory.{memory_form, memory_numbers, address_filled, place_filled, memory_cells}
+use Rattle.adapter_mem.specs.Memory.{memory_form, memory_numbers, address_filled, place_filled, memory_filled, memory_cells, read_touches}
 use Rattle.adapter_mem.specs.MemoryLaws.{IsForm, MemoryAt, MemoryTells, MemoryPlaced, MemoryFills, MemoryLaws, flags_filled, block_filled}
 use Rattle.adapter_mem.specs.lemmas.Address.{filled_is}
-use Rattle.adapter_mem.specs.lemmas.Forms.{signed_none, at_form, placed_by, each_shift, has}
+use Rattle.adapter_mem.specs.Select.{top_by, sign_of}
+use Rattle.adapter_mem.specs.SelectLaws.{Extends, AreBytes, SignFilled}
+use Rattle.adapter_mem.specs.lemmas.Forms.{signed_none, at_form, placed_by, each_shift, has, good_forms, are_good_forms, is_good_form}
 use Rattle.adapter_mem.specs.lemmas.Form.{memory_table_form}
+use Rattle.adapter_mem.specs.lemmas.Reads.{read_accesses, second_word, read_filled}
+use Rattle.adapter_mem.specs.lemmas.Select.{loads_are_read, signs_are_filled}
 use Rattle.adapter_mem.specs.lemmas.Writes.{three_gaps, cells_below}
-use Rattle.chip_load.specs.Load.{load_forms, load_new, load_table, load_filled, top_by, sign_of}
-use Rattle.chip_load.specs.lemmas.Words.{loads_are, Signed, signed_from, new_bytes, new_is, SignFilled, sign_filled}
-use Rattle.chip_load.specs.lemmas.Means.{apart_load, is_memory, loaded, load_means, unwritten_means, load_words, load_accesses}
+use Rattle.chip_load.specs.Load.{load_forms, load_new, load_table, load_filled}
+use Rattle.chip_load.specs.lemmas.Means.{apart_load, many_places, is_memory, loaded, load_means}
 
 abbrev opcodes : List ℕ
 opcodes = 11 ∷ 11 ∷ 11 ∷ 11 ∷ 12 ∷ 12 ∷ 13 ∷ 14 ∷ 14 ∷ 14 ∷ 14 ∷ 15 ∷ 15 ∷ []
 
 is_owned : (op : ℕ) → owns_of (memory_form load_table) op ≡ true → is_load op ≡ true
 is_owned op h = of_owned (λ k. is_load k ≡ true) opcodes op (refl, (refl, (refl, (refl, (refl, (refl, (refl, (refl, (refl, (refl, (refl, (refl, (refl, tt))))))))))))) h
+
+-- ---- forms
+
+good : are_good_forms load_forms ≡ true
+unfolding are_good_forms is_good_form width_of
+good = refl
+
+loads_are : AllByRecursion IsForm load_forms
+loads_are = good_forms load_forms good
+
+loads_extend : AllByRecursion Extends load_forms
+unfolding extended
+loads_extend = (
+  (refl, λ n. refl),
+  (
+    (refl, λ n. refl),
+    (
+      (refl, λ n. refl),
+      (
+        (refl, λ n. refl),
+        (
+          (refl, λ n. refl),
+          (
+            (refl, λ n. refl),
+            (
+              (refl, λ n. refl),
+              ((refl, λ n. refl), ((refl, λ n. refl), ((refl, λ n. refl), ((refl, λ n. refl), ((refl, λ n. refl), ((refl, λ n. refl), tt)))))),
+            ),
+          ),
+        ),
+      ),
+    ),
+  ),
+)
+
+-- the word is what the opcode of the flag makes of the bytes of its form
+abbrev Read : ℕ → List ℕ → MemoryColumns ℕ → Type 0
+Read k flags m = let f = form_at load_forms k in AreBytes (load_new field flags m) (limbs_of (extended f.op (number_in (list_of m.middle) f.shift f.width)))
+
+read_at : (k : ℕ) (flags : List ℕ) (m : MemoryColumns ℕ) → k < length load_forms → flags ≡ one_hot (length load_forms) k → IsBytes (list_of m.middle) → IsSign (signed_by field load_forms flags) (top_by field load_forms flags m.middle) m.sign → Read k flags m
+read_at k flags m below hot bytes sign = loads_are_read load_forms k flags (record { are = loads_are; below = below; hot = hot }) m.middle bytes loads_extend m.sign sign
 
 -- ---- a valid row
 
@@ -53,16 +101,13 @@ bit_small false = lit≤ tt
 
 module _ (k block : ℕ) (flags : List ℕ) (m : MemoryColumns ℕ) (i : VmInstr) (a : MemoryAt load_table k block flags m i) where
   abbrev new : Limbs ℕ
-  new = load_new field flags m.middle m.sign
+  new = load_new field flags m
 
   h : is_load i.op ≡ true
   h = is_owned i.op a.owned
 
-  sign : IsBytes (list_of m.middle) → Signed (form_at load_forms k) m.middle m.sign
-  sign bytes = signed_from k flags m.middle a.below a.flags_are bytes m.sign (sign_says (signed_by field load_forms flags) (top_by field flags m.middle) m.sign a.sign_below (record { zero = a.zero; good = λ some. (a.good.0 some).xor refl }))
-
-  bytes_of_new : IsBytes (list_of m.middle) → IsBytes (list_of new)
-  bytes_of_new bytes = new_bytes k flags m.middle a.below a.flags_are bytes m.sign (sign bytes)
+  read : IsBytes (list_of m.middle) → Read k flags m
+  read bytes = read_at k flags m a.below a.flags_are bytes (sign_says (signed_by field load_forms flags) (top_by field load_forms flags m.middle) m.sign a.sign_below (record { zero = a.zero; good = λ some. (a.good.0 some).xor refl }))
 
   new_word : IsBytes (list_of m.base) → IsBytes (list_of m.middle) → list_of new ≡ loaded i (list_of m.base) (list_of m.middle)
   new_word base bytes =
@@ -70,7 +115,7 @@ module _ (k block : ℕ) (flags : List ℕ) (m : MemoryColumns ℕ) (i : VmInstr
       let form = at_form IsForm load_forms k a.below loads_are in
       let at = a.address_is base in
       let width : f.width ≡ width_of i.op = sym form.width_is ∙ ap width_of (sym a.op) in
-      new_is k flags m.middle a.below a.flags_are bytes m.sign (sign bytes) ∙ rw (sym at.shift, width, sym a.op) refl
+      (read bytes).are ∙ rw (sym at.shift, width, sym a.op) refl
 
   tells_by : (b : Bool) → i.write ≡ b → MemoryTells load_table block flags m i
   tells_by true w =
@@ -79,12 +124,12 @@ module _ (k block : ℕ) (flags : List ℕ) (m : MemoryColumns ℕ) (i : VmInstr
         counts = rw one (lit≤ tt, (lit≤ tt, (lit≤ tt, tt)));
         slots = (lit< tt, (lit< tt, (lit< tt, tt)));
         rising = rw one (lit≤ tt, lit< tt, (lit≤ tt, lit< tt, (lit≤ tt, lit< tt, tt)));
-        new_bytes = rw one (λ b. (b, λ x. (x, λ o. (bytes_of_new x, tt))));
+        new_bytes = rw one (λ b. (b, λ x. (x, λ o. ((read x).bytes, tt))));
         means = rw one (λ old.
             let at = a.address_is old.0 in
             let e0 = pointer m.rs1 i.rs1 a.rs1 a.in_range.rs1 in
             let e2 = pointer m.rd i.rd a.rd a.in_range.rd in
-            ([], load_means i (list_of m.base) (list_of m.middle) (list_of m.last) [] h w at.below at.aligned ∙ rw (e0, e2, at.block_is, new_word old.0 old.1.0) refl));
+            ([], load_means i (list_of m.base) (list_of m.middle) [] (list_of m.last ∷ []) h (rw w refl) at.below at.aligned ∙ rw (e0, e2, at.block_is, new_word old.0 old.1.0) refl));
       }
   tells_by false w =
       let none : m.write ≡ 0 = a.write ∙ ap bit_of w in
@@ -96,7 +141,7 @@ module _ (k block : ℕ) (flags : List ℕ) (m : MemoryColumns ℕ) (i : VmInstr
         means = rw none (λ old.
             let at = a.address_is old.0 in
             let e0 = pointer m.rs1 i.rs1 a.rs1 a.in_range.rs1 in
-            ([], unwritten_means i (list_of m.base) (list_of m.middle) [] h w at.below at.aligned ∙ rw (e0, at.block_is) refl));
+            ([], load_means i (list_of m.base) (list_of m.middle) [] [] h (rw w refl) at.below at.aligned ∙ rw (e0, at.block_is) refl));
       }
 
   tells : MemoryTells load_table block flags m i
@@ -119,22 +164,25 @@ fills hi done top f p =
     let m = load_filled done in
     let flags = flags_filled load_table done in
     let k = place_filled load_forms done in
-    let base = (access_at done.accesses 0).access.old in
-    let x = (access_at done.accesses 1).access.old in
-    let words = load_words (16 + hi) done f h in
-    let here : address_filled done ≡ address i (word_of_limbs base) = filled_is done in
-    let block : block_filled done ≡ block_address i (word_of_limbs base) = ap (λ (n : ℕ). n - n % 4) here in
+    let s = read_accesses i.write done.accesses (as_many i done.accesses f.given f.meaning f.means ∙ many_places i (olds_of done.accesses) h) in
+    let b = s.first.access.old in
+    let first : access_at done.accesses 0 ≡ s.first = ap (λ (xs : List TimedAccess). access_at xs 0) s.are in
+    let second : access_at done.accesses 1 ≡ s.second = ap (λ (xs : List TimedAccess). access_at xs 1) s.are in
+    let here : address_filled done ≡ address i (word_of_limbs b) = filled_is done ∙ ap (λ (x : TimedAccess). address i (word_of_limbs x.access.old)) first in
+    let block : block_filled done ≡ block_address i (word_of_limbs b) = ap (λ (n : ℕ). n - n % 4) here in
     let ends : done.time + 3 ≤ 2 ^ (16 + hi) = subst (λ (n : ℕ). done.time + n ≤ 2 ^ (16 + hi)) (apart_load i.op h).three f.ends in
-    let middle : IsBytes (list_of m.middle) = bytes_of x words.second in
-    let word : list_of m.middle ≡ x = list_of-from x words.second.four in
-    let g = subst (λ (ys : List ℕ). SignFilled (signed_by field load_forms flags) (top_by field flags m.middle) (sign_of (form_at load_forms k) ys)) word (sign_filled k flags m.middle p.place.below refl middle) in
-    let signed = signed_from k flags m.middle p.place.below refl middle m.sign g.is in
+    let whole = second_word (16 + hi) done f s in
+    let middle : IsBytes (list_of m.middle) = bytes_of (access_at done.accesses 1).access.old whole in
+    let word = list_of-from (access_at done.accesses 1).access.old whole.four in
+    let g = subst (λ (ys : List ℕ). SignFilled (signed_by field load_forms flags) (top_by field load_forms flags m.middle) (sign_of (form_at load_forms k) ys)) word
+    (signs_are_filled load_forms k flags (record { are = loads_are; below = p.place.below; hot = refl }) m.middle middle) in
     let form = at_form IsForm load_forms k p.place.below loads_are in
-    let shift : (form_at load_forms k).shift ≡ in_block i (word_of_limbs base) = p.place.shift_is ∙ ap (λ (n : ℕ). n % 4) here in
+    let shift : (form_at load_forms k).shift ≡ in_block i (word_of_limbs b) = p.place.shift_is ∙ ap (λ (n : ℕ). n % 4) here in
     let width : (form_at load_forms k).width ≡ width_of i.op = sym form.width_is ∙ ap width_of p.place.op_is in
-    let new : list_of (load_new field flags m.middle m.sign) ≡ loaded i base x = new_is k flags m.middle p.place.below refl middle m.sign signed ∙ rw (shift, width, p.place.op_is, word) refl in
-    let w = load_accesses hi done top f h ends (load_new field flags m.middle m.sign) (record { low = omega (arith, here, p.below); aligned = subst (λ (n : ℕ). n % width_of i.op ≡ 0) here p.aligned; is = new }) in
-    let sign = sign_meets (signed_by field load_forms flags) (top_by field flags m.middle) m.sign g.small g.is in
+    let new : list_of (load_new field flags m) ≡ loaded i b s.second.access.old = (read_at k flags m p.place.below refl middle g.is).are ∙ rw (shift, width, p.place.op_is, word, second) refl in
+    let means = load_means i b s.second.access.old f.given (olds_of s.more) h s.long (omega (arith, here, p.below)) (subst (λ (n : ℕ). n % width_of i.op ≡ 0) here p.aligned) in
+    let w = read_filled hi done s top f ends (block_address i (word_of_limbs b)) (load_new field flags m) (rw new means) in
+    let sign = sign_meets (signed_by field load_forms flags) (top_by field load_forms flags m.middle) m.sign g.small g.is in
     let cells = cells_below m (bytes_of i.imm range.imm) p.base middle w.last (omega arith) (omega (arith, p.below)) in
     record {
       below = row_below i.rd i.rs1 (bit_of i.write) m.sign (memory_cells m) (three_gaps done) range.rd range.rs1 (bit_small i.write) g.low cells w.gaps;
@@ -144,7 +192,7 @@ fills hi done top f p =
       small = (g.small, tt);
       good = (λ some. good_xor _ refl (sign.good some), tt);
       sources = w.sources;
-      made_by = subst (λ (n : ℕ). MadeByAll hi done.time (load_table.parts.touches 1 n flags m) w.sources) (sym block) w.made_by;
+      made_by = subst (λ (n : ℕ). MadeByAll hi done.time (read_touches field 1 n (memory_filled done) (load_new field flags m)) w.sources) (sym block) w.made_by;
       accesses = w.are;
     }
 
@@ -203,8 +251,5 @@ load_laws = record {
 pub load_form_laws : FormLaws (memory_form load_table)
 load_form_laws = memory_table_form load_table load_laws
 
-no_hints : NoHints (memory_form load_table)
-no_hints = ((refl, refl), ((refl, refl), ((refl, refl), ((refl, refl), ((refl, refl), ((refl, refl), ((refl, refl), ((refl, refl), ((refl, refl), ((refl, refl), ((refl, refl), ((refl, refl), ((refl, refl), tt)))))))))))))
-
 pub load_no_hints : NoHints (memory_form load_table)
-load_no_hints = no_hints
+load_no_hints = ((refl, refl), ((refl, refl), ((refl, refl), ((refl, refl), ((refl, refl), ((refl, refl), ((refl, refl), ((refl, refl), ((refl, refl), ((refl, refl), ((refl, refl), ((refl, refl), ((refl, refl), tt)))))))))))))

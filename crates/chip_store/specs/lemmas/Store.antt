@@ -14,6 +14,8 @@ use Rattle.vm_isa.specs.Instr.{InRange, numbers_of}
 use Rattle.vm_isa.specs.Means.{Fillable, address, block_address, in_block, bars_first, bars_second, means_of, new_at, next_of, place, places_by, places_of, register, word_at}
 use Rattle.vm_isa.specs.Opcodes.{is_load, is_store}
 use Rattle.vm_isa.specs.Results.{width_of, with_low}
+use Rattle.vm_isa.specs.Words.{IsBytes}
+use Rattle.air_core.specs.Flags.{one_hot}
 use Rattle.air_core.specs.ListLemmas.{all_append, below_at}
 use Rattle.air_core.specs.Ring.{field}
 use Rattle.air_core.specs.Sheet.{AllZero, AllBelow}
@@ -29,11 +31,23 @@ use Rattle.adapter_mem.specs.Forms.{form_at}
 use Rattle.adapter_mem.specs.Memory.{memory_form, memory_numbers, address_filled, place_filled, memory_filled, memory_cells, write_touches}
 use Rattle.adapter_mem.specs.MemoryLaws.{IsForm, IsMemory, MemoryAt, MemoryTells, MemoryPlaced, MemoryFills, MemoryLaws, flags_filled, block_filled}
 use Rattle.adapter_mem.specs.lemmas.Address.{Apart, apart, fits, filled_is}
-use Rattle.adapter_mem.specs.lemmas.Forms.{at_form, placed_by, each_shift, has}
+use Rattle.adapter_mem.specs.SelectLaws.{AreBytes}
+use Rattle.adapter_mem.specs.lemmas.Forms.{at_form, placed_by, each_shift, has, good_forms, are_good_forms, is_good_form}
 use Rattle.adapter_mem.specs.lemmas.Form.{memory_table_form}
+use Rattle.adapter_mem.specs.lemmas.Select.{stores_are_laid}
 use Rattle.adapter_mem.specs.lemmas.Writes.{write_meaning, write_means, three, three_words, three_gaps, write_filled, cells_below}
 use Rattle.chip_store.specs.Store.{store_forms, store_new, store_table, store_filled}
-use Rattle.chip_store.specs.lemmas.Words.{stores_are, new_bytes, new_is}
+
+good : are_good_forms store_forms ≡ true
+unfolding are_good_forms is_good_form width_of
+good = refl
+
+stores_are : AllByRecursion IsForm store_forms
+stores_are = good_forms store_forms good
+
+new_is : (k : ℕ) (flags : List ℕ) (m : MemoryColumns ℕ) → k < length store_forms → flags ≡ one_hot (length store_forms) k → IsBytes (list_of m.middle) → IsBytes (list_of m.last)
+    → AreBytes (store_new field flags m) (with_low (list_of m.last) (form_at store_forms k).shift (form_at store_forms k).width (list_of m.middle))
+new_is k flags m below hot word block = stores_are_laid store_forms k flags (record { are = stores_are; below = below; hot = hot }) m.last block m.middle word
 
 apart_store : (op : ℕ) → is_store op ≡ true → Apart op
 apart_store op h = apart op (or_true (is_load op) (is_store op) h)
@@ -88,14 +102,14 @@ tells k block flags m i a = record {
   counts = (lit≤ tt, (lit≤ tt, (lit≤ tt, tt)));
   slots = (lit< tt, (lit< tt, (lit< tt, tt)));
   rising = (lit≤ tt, lit< tt, (lit≤ tt, lit< tt, (lit≤ tt, lit< tt, tt)));
-  new_bytes = λ b. (b, λ c. (c, λ x. (new_bytes k flags m a.below a.flags_are c x, tt)));
+  new_bytes = λ b. (b, λ c. (c, λ x. ((new_is k flags m a.below a.flags_are c x).bytes, tt)));
   means = λ old.
       let h = is_owned i.op a.owned in
       let at = a.address_is old.0 in
       let form = at_form IsForm store_forms k a.below stores_are in
       let width : width_of i.op ≡ (form_at store_forms k).width = ap width_of a.op ∙ form.width_is in
       let new : list_of (store_new field flags m) ≡ with_low (list_of m.last) (in_block i (word_of_limbs (list_of m.base))) (width_of i.op) (list_of m.middle)
-      = new_is k flags m a.below a.flags_are old.1.0 old.1.1.0 ∙ ap (λ (n : ℕ). with_low (list_of m.last) n (form_at store_forms k).width (list_of m.middle)) (sym at.shift)
+      = (new_is k flags m a.below a.flags_are old.1.0 old.1.1.0).are ∙ ap (λ (n : ℕ). with_low (list_of m.last) n (form_at store_forms k).width (list_of m.middle)) (sym at.shift)
       ∙ ap (λ (n : ℕ). with_low (list_of m.last) (in_block i (word_of_limbs (list_of m.base))) n (list_of m.middle)) (sym width) in
       let e0 = pointer m.rs1 i.rs1 a.rs1 a.in_range.rs1 in
       let e1 = pointer m.rs2 i.rs2 a.rs2 a.in_range.rs2 in
@@ -135,7 +149,7 @@ fills hi done top f p =
     let shift : (form_at store_forms k).shift ≡ in_block i (word_of_limbs s.a.access.old) = p.place.shift_is ∙ ap (λ (n : ℕ). n % 4) here in
     let width : (form_at store_forms k).width ≡ width_of i.op = sym form.width_is ∙ ap width_of p.place.op_is in
     let new : list_of (store_new field flags m) ≡ with_low s.c.access.old (in_block i (word_of_limbs s.a.access.old)) (width_of i.op) s.b.access.old
-    = new_is k flags m p.place.below refl middle last ∙ rw (shift, width, word, old) refl in
+    = (new_is k flags m p.place.below refl middle last).are ∙ rw (shift, width, word, old) refl in
     let means = store_means i s.a.access.old s.b.access.old s.c.access.old f.given h (omega (arith, here, p.below)) (subst (λ (n : ℕ). n % width_of i.op ≡ 0) here p.aligned) in
     let w = write_filled hi done s top f ends 2 (block_address i (word_of_limbs s.a.access.old)) i.rs1 i.rs2 (store_new field flags m) _ range.rs1 range.rs2 new means in
     let cells = cells_below m (bytes_of i.imm range.imm) p.base middle last (omega arith) (omega (arith, p.below)) in

@@ -15,6 +15,7 @@ use vm_word::operation::jump_target;
 
 impl<'a> State<'a> {
     /// Does what an instruction does, or traps.
+    #[inline(always)]
     pub fn execute(&mut self, instr: Instr) -> Result<Stepped, OutOfMemory>
         requires { HasFieldsInRange instr }
         ensures step { IfOk result (IsStepBy instr (machine_of self.old) (machine_of self.new)) }

@@ -1,5 +1,5 @@
 // Table files that `check` accepts and rejects, each with the line that is said.
-use super::{elf_of, named, words_of};
+use super::{elf_of, host_of, words_of};
 use crate::answer::Status;
 use crate::tool::openvm;
 use elf_image::read_image;
@@ -29,7 +29,7 @@ const SUM_COUNTS: [u32; 16] = [1, 0, 1, 2, 0, 3, 1799, 1, 3, 255, 2, 65535, 1, 6
 // the final times of the blocks of registers
 const SUM_TIMES: [u32; 16] = [1, 0, 0, 0, 0, 3, 0, 0, 0, 0, 0, 0, 0, 0, 0, 0];
 
-fn push_numbers(bytes: &mut Vec<u8>, numbers: &[u32]) -> Result<(), AllocError> {
+pub(super) fn push_numbers(bytes: &mut Vec<u8>, numbers: &[u32]) -> Result<(), AllocError> {
     for number in numbers {
         bytes.extend_from_slice(&number.to_le_bytes())?;
     }
@@ -114,16 +114,13 @@ fn checked<R: Abort + AllocGlobal>(
     failing: &[u64],
 ) -> Result<(Status, MemoryHost), Fail> {
     let alloc = rt.alloc();
-    let mut files = Vec::new(alloc);
-    files.push(named(alloc, "elf", elf_of(alloc, words)?)?)?;
-    files.push(named(alloc, "tables", tables.to_vec(alloc)?)?)?;
-    let mut host = MemoryHost::new(alloc, files, failing.to_vec(alloc)?);
-    let status = openvm(alloc, &words_of(alloc, "check elf tables")?, &mut host);
+    let mut host = host_of(alloc, &elf_of(alloc, words)?, tables, failing)?;
+    let status = openvm(alloc, &words_of(alloc, "check elf second")?, &mut host);
     Ok((status, host))
 }
 
 // The file is accepted, with this exit code and this number of segments.
-fn accepts<R: Abort + AllocGlobal>(
+pub(super) fn accepts<R: Abort + AllocGlobal>(
     rt: &R,
     words: &[u32],
     tables: &[u8],
@@ -140,7 +137,7 @@ fn accepts<R: Abort + AllocGlobal>(
 }
 
 // The file is rejected for this reason.
-fn rejects<R: Abort + AllocGlobal>(
+pub(super) fn rejects<R: Abort + AllocGlobal>(
     rt: &R,
     words: &[u32],
     tables: &[u8],
@@ -154,7 +151,7 @@ fn rejects<R: Abort + AllocGlobal>(
 }
 
 // The bytes with others put at a place, where some stood before.
-fn changed(
+pub(super) fn changed(
     alloc: Global,
     bytes: &[u8],
     at: usize,

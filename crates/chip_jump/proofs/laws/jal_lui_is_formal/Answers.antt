@@ -1,17 +1,5 @@
-use Rattle.std.proofs.Common.{refl}
-use Rattle.air_core.specs.First.{bit, gated_difference}
-use Rattle.air_core.specs.Flags.{flag_constraints}
-use Rattle.air_core.specs.Path.{path_lines}
-use Rattle.vm_field.specs.Limbs.{list_of}
-use Rattle.gadget_limbs.specs.Sum.{sum_constraints, carry_out, gated_bit}
-use Rattle.gadget_time.specs.Told.{time_constraint, touch_constraint, touch_lines}
-use Rattle.gadget_time.specs.Form.{columns_by, form_constraints}
-use Rattle.adapter_mem.specs.Pointer.{pointer_constraints, low_half, high_half, half_out, part, pointer}
-use Rattle.adapter_regs.specs.Next.{next_by}
-use Rattle.chip_jump.specs.Link.{number_by, link_difference}
-use Rattle.chip_jump.specs.JalLui.{jal_constraints, jal_lines, jal_numbers, jal_touches}
+use Rattle.chip_jump.specs.lemmas.Cores.{jal_lui_formal}
 use Rattle.chip_jump.proofs.laws.jal_lui_is_formal.Goals as goal
 
 pub returns : goal.returns
-unfolding flag_constraints path_lines time_constraint touch_constraint touch_lines columns_by form_constraints bit gated_difference next_by number_by link_difference jal_constraints jal_lines jal_numbers jal_touches
-returns c = record { constraints = λ row. refl; lines = λ hi row. refl }
+returns c = jal_lui_formal

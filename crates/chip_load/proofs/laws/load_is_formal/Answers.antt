@@ -8,9 +8,9 @@ use Rattle.gadget_time.specs.Told.{time_constraint, touch_constraint, touch_line
 use Rattle.gadget_time.specs.Form.{columns_by, form_constraints}
 use Rattle.adapter_mem.specs.Memory.{memory_numbers}
 use Rattle.adapter_mem.specs.Pointer.{pointer_constraints, low_half, high_half, half_out, part, pointer}
-use Rattle.chip_load.specs.Load.{load_limb}
+use Rattle.adapter_mem.specs.Select.{loaded_limb}
 use Rattle.chip_load.proofs.laws.load_is_formal.Goals as goal
 
 pub returns : goal.returns
-unfolding flag_constraints path_lines time_constraint touch_constraint touch_lines columns_by form_constraints bit list_of sign_constraints sign_looked_up memory_numbers pointer_constraints low_half high_half half_out part pointer load_limb
+unfolding flag_constraints path_lines time_constraint touch_constraint touch_lines columns_by form_constraints bit list_of sign_constraints sign_looked_up memory_numbers pointer_constraints low_half high_half half_out part pointer loaded_limb
 returns c = record { constraints = λ row. refl; lines = λ hi row. refl }

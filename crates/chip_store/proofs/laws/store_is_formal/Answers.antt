@@ -7,9 +7,9 @@ use Rattle.gadget_time.specs.Told.{time_constraint, touch_constraint, touch_line
 use Rattle.gadget_time.specs.Form.{columns_by, form_constraints}
 use Rattle.adapter_mem.specs.Memory.{memory_numbers}
 use Rattle.adapter_mem.specs.Pointer.{pointer_constraints, low_half, high_half, half_out, part, pointer}
-use Rattle.chip_store.specs.Store.{store_limb}
+use Rattle.adapter_mem.specs.Select.{stored_limb}
 use Rattle.chip_store.proofs.laws.store_is_formal.Goals as goal
 
 pub returns : goal.returns
-unfolding flag_constraints path_lines time_constraint touch_constraint touch_lines columns_by form_constraints bit list_of memory_numbers pointer_constraints low_half high_half half_out part pointer store_limb
+unfolding flag_constraints path_lines time_constraint touch_constraint touch_lines columns_by form_constraints bit list_of memory_numbers pointer_constraints low_half high_half half_out part pointer stored_limb
 returns c = record { constraints = λ row. refl; lines = λ hi row. refl }

@@ -12,7 +12,7 @@ pub loop-step-init : goal.loop-step-init
 loop-step-init c =
     let program = program_of c.args.machine.now in
     let pc = c.args.machine.now.pc in
-    let none = taken_none program (machine_of c.args.machine.now) c.requires.none in
+    let none = taken_none program (machine_of c.args.machine.now) c.requires.bytes in
     record {
       taken =
           subst (λ (m : Machine). TookSteps program pc 0 c.new-records.result.items m) (sym c.start_segment.ensures.begun)

@@ -1,0 +1,8 @@
+use Rattle.std.proofs.Common.{◌≡◌, drop, map}
+use Rattle.air_core.specs.Ring.{field}
+use Rattle.adapter_mem.specs.Forms.{selected_from}
+use Rattle.adapter_mem.specs.Select.{fill_of}
+use Rattle.adapter_mem.proofs.select.fills_by.Given as goal
+
+abbrev pub invariant-loop-i : goal.invariant-loop-i
+invariant-loop-i l = selected_from field l.sum (drop l.i l.flags) (map (fill_of field l.j) (drop l.i l.forms)) ≡ selected_from field 0 l.flags (map (fill_of field l.j) l.forms)

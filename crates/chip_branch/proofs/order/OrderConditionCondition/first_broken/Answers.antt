@@ -1,7 +1,0 @@
-use Rattle.std.proofs.Common.{refl}
-use Rattle.vm_field.specs.Limbs.{list_of}
-use Rattle.chip_branch.proofs.order.OrderConditionCondition.first_broken.Goals as goal
-
-pub returns : goal.returns
-unfolding list_of
-returns c = rw (c.less_broken.ensures, c.array.ensures, c.array-2.ensures) refl

@@ -1,0 +1,2 @@
+pub mod DividedSays
+pub mod DividedHolds
