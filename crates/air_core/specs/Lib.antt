@@ -12,6 +12,7 @@ pub mod Path
 pub mod Lookups
 pub mod Step
 pub mod Hint
+pub mod Taken
 pub mod Laws
 pub mod ListLemmas
 pub mod FlagLaws

@@ -6,7 +6,7 @@ ghost use Rattle.air_core.specs.ExtensionLaws.{Joinable, width_of};
 ghost use Rattle.air_core.specs.Join.{join};
 ghost use Rattle.air_core.specs.JoinLaws.{join_fits, join_buses, join_rows, join_timed, join_sound, join_complete, join_quiet};
 
-use crate::{EventSink, Extension, HintWord, OutOfMemory};
+use crate::{EventSink, Extension, HintWord, OutOfMemory, RowError};
 use vm_field::Fe;
 use vm_isa::StepRecord;
 
@@ -127,6 +127,20 @@ impl<A: Extension, B: Extension> Extension for Both<A, B> {
             self.first.hint(table, row)
         } else {
             self.second.hint(table - count, row)
+        }
+    }
+
+    fn take_row<S: EventSink>(
+        &self,
+        table: u32,
+        row: &[Fe],
+        sink: &mut S,
+    ) -> Result<Option<HintWord>, RowError> {
+        let count = self.first.tables();
+        if table < count {
+            self.first.take_row(table, row, sink)
+        } else {
+            self.second.take_row(table - count, row, sink)
         }
     }
 

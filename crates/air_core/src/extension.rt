@@ -1,15 +1,16 @@
 //! Several tables that belong together.
 
-ghost use Rattle.std.specs.Prelude.{◌≡◌, ℕ, ◌<◌, ◌≤◌, length, MatchOption, OnOk, OnErr};
+ghost use Rattle.std.specs.Prelude.{◌≡◌, ℕ, ◌<◌, ◌≤◌, None, length, MatchOption, IfOk, IfErr, OnOk, OnErr};
 ghost use Rattle.vm_isa.specs.Means.{Fillable};
 ghost use Rattle.air_core.specs.First.{first_from};
 ghost use Rattle.air_core.specs.Sheet.{RowHolds, IsRow, row_events};
 ghost use Rattle.air_core.specs.Sink.{Handed, HandedSome};
 ghost use Rattle.air_core.specs.Hint.{NoHint, IsHint};
+ghost use Rattle.air_core.specs.Taken.{Refuses};
 ghost use Rattle.air_core.specs.System.{System, sheet_at, rows_at, owner_in};
 ghost use Rattle.air_core.specs.ExtensionLaws.{ExtensionFits, ExtensionBuses, ExtensionRows, ExtensionTimed, ExtensionSound, ExtensionComplete, ExtensionQuiet};
 
-use crate::{EventSink, HintWord, OutOfMemory};
+use crate::{EventSink, HintWord, OutOfMemory, RowError};
 use vm_field::Fe;
 use vm_isa::StepRecord;
 
@@ -72,6 +73,26 @@ pub trait Extension {
         requires wide { length row.now ≡ (sheet_at (system self.now) table).width }
         ensures { IsRow (sheet_at (system self.now) table) row.now → RowHolds (sheet_at (system self.now) table) row.now
             → MatchOption result (NoHint (row_events (sheet_at (system self.now) table) row.now)) (λ h. IsHint h (row_events (sheet_at (system self.now) table) row.now)) };
+
+    /// Tests a row. Where it holds, hands over what it says, and answers what it takes of the host's words: all that a check
+    /// asks of a row, with the table looked up once.
+    fn take_row<S: EventSink>(&self, table: u32, row: &[Fe], sink: &mut S) -> Result<Option<HintWord>, RowError>
+        requires known { table < length (system self.now).parts }
+        requires wide { length row.now ≡ (sheet_at (system self.now) table).width }
+        requires room { 256 ≤ S.room sink.old }
+        ensures holds { OnOk result (first_from 0 ((sheet_at (system self.now) table).constraints row.now) ≡ None) }
+        ensures handed { OnOk result (Handed S.holds S.room sink.old sink.new (row_events (sheet_at (system self.now) table) row.now)) }
+        ensures hint { IfOk result (λ hint. IsRow (sheet_at (system self.now) table) row.now → RowHolds (sheet_at (system self.now) table) row.now
+            → MatchOption hint (NoHint (row_events (sheet_at (system self.now) table) row.now)) (λ h. IsHint h (row_events (sheet_at (system self.now) table) row.now))) }
+        ensures err { IfErr result (λ error. Refuses (first_from 0 ((sheet_at (system self.now) table).constraints row.now)) (sink.new ≡ sink.old)
+            (HandedSome S.holds S.room sink.old sink.new (row_events (sheet_at (system self.now) table) row.now)) error) }
+    {
+        if let Some(constraint) = self.first_broken(table, row) {
+            return Err(RowError::Broken(constraint));
+        }
+        self.events(table, row, sink)?;
+        Ok(self.hint(table, row))
+    }
 
     /// Writes a row of a table, at a place among the rows that the record fills there.
     fn fill(&self, done: &StepRecord, table: u32, place: u32, row: &mut [Fe])

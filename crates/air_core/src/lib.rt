@@ -16,6 +16,7 @@ pub mod laws;
 mod list;
 mod no_chips;
 mod reserved;
+mod row_error;
 mod single;
 mod sink;
 #[cfg(test)]
@@ -35,6 +36,7 @@ pub use holds::{bit, bits_broken, first, first_nonzero, gated_difference};
 pub use list::EventList;
 pub use no_chips::NoChips;
 pub use reserved::Reserved;
+pub use row_error::RowError;
 pub use single::Single;
 pub use sink::EventSink;
 pub use std::alloc::AllocError as OutOfMemory;
