@@ -76,7 +76,12 @@ pub trait Extension {
 
     /// Tests a row. Where it holds, hands over what it says, and answers what it takes of the host's words: all that a check
     /// asks of a row, with the table looked up once.
-    fn take_row<S: EventSink>(&self, table: u32, row: &[Fe], sink: &mut S) -> Result<Option<HintWord>, RowError>
+    fn take_row<S: EventSink>(
+        &self,
+        table: u32,
+        row: &[Fe],
+        sink: &mut S,
+    ) -> Result<Option<HintWord>, RowError>
         requires known { table < length (system self.now).parts }
         requires wide { length row.now ≡ (sheet_at (system self.now) table).width }
         requires room { 256 ≤ S.room sink.old }
