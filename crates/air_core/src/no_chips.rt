@@ -1,15 +1,16 @@
 //! The extension without tables.
 
-ghost use Rattle.std.specs.Prelude.{◌≡◌, ℕ, ◌≤◌, length, MatchOption, OnOk, OnErr};
+ghost use Rattle.std.specs.Prelude.{◌≡◌, ℕ, ◌≤◌, None, length, MatchOption, IfOk, IfErr, OnOk, OnErr};
 ghost use Rattle.air_core.specs.First.{first_from};
 ghost use Rattle.air_core.specs.Hint.{NoHint, IsHint};
 ghost use Rattle.air_core.specs.Sheet.{RowHolds, IsRow, row_events};
 ghost use Rattle.air_core.specs.Sink.{Handed, HandedSome};
 ghost use Rattle.air_core.specs.System.{no_sheet};
+ghost use Rattle.air_core.specs.Taken.{Refuses};
 ghost use Rattle.air_core.specs.Join.{no_chips};
 ghost use Rattle.air_core.specs.SingleLaws.{no_fits, no_rows, no_sound, no_complete};
 
-use crate::{EventSink, Extension, HintWord, OutOfMemory};
+use crate::{EventSink, Extension, HintWord, OutOfMemory, RowError};
 use vm_field::Fe;
 use vm_isa::StepRecord;
 
@@ -99,6 +100,21 @@ impl Extension for NoChips {
         ensures { MatchOption result (NoHint (row_events no_sheet row.now)) (λ h. IsHint h (row_events no_sheet row.now)) }
     {
         None
+    }
+
+    fn take_row<S: EventSink>(
+        &self,
+        _table: u32,
+        row: &[Fe],
+        sink: &mut S,
+    ) -> Result<Option<HintWord>, RowError>
+        ensures holds { OnOk result (first_from 0 (no_sheet.constraints row.now) ≡ None) }
+        ensures handed { OnOk result (Handed S.holds S.room sink.old sink.new (row_events no_sheet row.now)) }
+        ensures hint { IfOk result (λ hint. MatchOption hint (NoHint (row_events no_sheet row.now)) (λ h. IsHint h (row_events no_sheet row.now))) }
+        ensures err { IfErr result (λ error. Refuses (first_from 0 (no_sheet.constraints row.now)) (sink.new ≡ sink.old)
+            (HandedSome S.holds S.room sink.old sink.new (row_events no_sheet row.now)) error) }
+    {
+        Ok(None)
     }
 
     fn fill(&self, done: &StepRecord, _table: u32, place: u32, row: &mut [Fe])
