@@ -13,7 +13,7 @@ ghost use Rattle.vm_checker.specs.Kept.{Tallied};
 
 use crate::heights::height;
 use crate::tally::Tally;
-use air_core::Extension;
+use air_core::{Extension, RowError};
 use readings::Stop;
 use std::alloc::Global;
 use table_format::{Reason, Stream};
@@ -43,16 +43,16 @@ fn take_row<E: Extension, H: Host>(
         stream.old stream.new (H.state host.old) (H.state host.new) result }
 {
     stream.row(host, buffer, width)?;
-    if let Some(constraint) = ext.first_broken(table, buffer) {
-        return Err(Stop::Refused(Reason::Row {
+    match tally.add(ext, table, buffer) {
+        Ok(()) => Ok(()),
+        Err(RowError::Broken(constraint)) => Err(Stop::Refused(Reason::Row {
             segment,
             table,
             row: place,
             constraint,
-        }));
+        })),
+        Err(RowError::OutOfMemory) => Err(Stop::OutOfMemory),
     }
-    tally.add(ext, table, buffer)?;
-    Ok(())
 }
 
 // The rows of a table.

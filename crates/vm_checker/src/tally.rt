@@ -1,13 +1,15 @@
 // What is kept of the rows of a segment.
-ghost use Rattle.std.specs.Prelude.{◌≡◌, ◌+◌, ◌^◌, ◌<◌, ◌≤◌, List, [], ◌∷◌, length, OnOk};
+ghost use Rattle.std.specs.Prelude.{◌≡◌, ◌+◌, ◌^◌, ◌<◌, ◌≤◌, List, [], ◌∷◌, None, length, IfErr, OnOk, ⊤};
 ghost use Rattle.air_core.specs.declared.event.Event.{Event as AnEvent};
-ghost use Rattle.air_core.specs.Sheet.{IsRow, RowHolds, row_events};
+ghost use Rattle.air_core.specs.First.{first_from};
+ghost use Rattle.air_core.specs.Sheet.{IsRow, row_events};
 ghost use Rattle.air_core.specs.System.{sheet_at};
+ghost use Rattle.air_core.specs.Taken.{Refuses};
 ghost use Rattle.vm_checker.specs.Heard.{Hears, room_left};
 ghost use Rattle.vm_checker.specs.Kept.{Tallied};
 
 use crate::said::Said;
-use air_core::{Extension, HintWord, OutOfMemory};
+use air_core::{Extension, HintWord, RowError};
 use std::alloc::Global;
 use vm_field::Fe;
 
@@ -32,29 +34,33 @@ impl Tally {
         }
     }
 
-    /// Adds a row that holds. A row is valid where it says something on the execution bus.
+    /// Adds a row, where it holds. A row is valid where it says something on the execution bus.
     pub(crate) fn add<E: Extension>(
         &mut self,
         ext: &E,
         table: u32,
         row: &[Fe],
-    ) -> Result<(), OutOfMemory>
+    ) -> Result<(), RowError>
         requires known { table < length (E.system ext.now).parts }
         requires wide { length row.now ≡ (sheet_at (E.system ext.now) table).width }
-        requires holds { RowHolds (sheet_at (E.system ext.now) table) row.now }
         requires room { 256 ≤ room_left self.old.said }
         requires counted { self.old.valid + 1 < 2 ^ 64 }
         requires heard { (events : List AnEvent) × Hears self.old.said events }
-        ensures { OnOk result (Tallied (IsRow (sheet_at (E.system ext.now) table) row.now) (row_events (sheet_at (E.system ext.now) table) row.now ∷ []) self.old self.new) }
+        ensures holds { OnOk result (first_from 0 ((sheet_at (E.system ext.now) table).constraints row.now) ≡ None) }
+        ensures added { OnOk result (Tallied (IsRow (sheet_at (E.system ext.now) table) row.now) (row_events (sheet_at (E.system ext.now) table) row.now ∷ []) self.old self.new) }
+        ensures err { IfErr result (λ error. Refuses (first_from 0 ((sheet_at (E.system ext.now) table).constraints row.now)) (self.new ≡ self.old) ⊤ error) }
     {
         let before = self.said.path();
-        ext.events(table, row, &mut self.said)?;
+        let hint = ext.take_row(table, row, &mut self.said)?;
         if self.said.path() > before {
             self.valid += 1;
         }
-        if let Some(hint) = ext.hint(table, row) {
-            self.hints.push(hint)?;
+        match hint {
+            None => Ok(()),
+            Some(hint) => match self.hints.push(hint) {
+                Ok(()) => Ok(()),
+                Err(_) => Err(RowError::OutOfMemory),
+            },
         }
-        Ok(())
     }
 }
