@@ -5,4 +5,3 @@ pub mod Memory
 pub mod MemoryLaws
 pub mod Select
 pub mod SelectLaws
-pub mod lemmas

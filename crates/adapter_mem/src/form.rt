@@ -20,7 +20,6 @@ pub type MemoryChip<C, const HI: u32> = FormChip<MemoryForm<C>, HI>;
 
 impl<C: MemoryCore> TableForm for MemoryForm<C> {
     ghost use Rattle.adapter_mem.specs.Memory.{memory_form};
-    ghost use Rattle.adapter_mem.specs.lemmas.Form.{memory_table_form};
 
     const FLAGS: usize = C::FLAGS;
 
@@ -38,7 +37,7 @@ impl<C: MemoryCore> TableForm for MemoryForm<C> {
 
     ghost sizes = { C.sizes };
 
-    ghost laws = { memory_table_form C.table C.laws };
+    ghost laws = { C.form_laws };
 
     fn owns(op: u8) -> bool {
         C::owns(op)

@@ -7,6 +7,7 @@ ghost use Rattle.air_core.specs.Ring.{field};
 ghost use Rattle.air_core.specs.Sheet.{IsRow, RowHolds, counted, row_events};
 ghost use Rattle.air_core.specs.Sink.{Handed, HandedSome};
 ghost use Rattle.gadget_time.specs.Form.{owns_of, form_sheet};
+ghost use Rattle.gadget_time.specs.FormLaws.{FormLaws};
 ghost use Rattle.gadget_time.specs.Told.{touch_constraint, touches_lines};
 ghost use Rattle.adapter_mem.specs.declared.memory.MemoryColumns.{MemoryColumns as MemoryRow};
 ghost use Rattle.adapter_mem.specs.Forms.{opcodes_of, opcode_by, shift_by};
@@ -130,4 +131,7 @@ pub trait MemoryCore {
     ghost sizes: { (length (opcodes_of table.forms) ≡ FLAGS) × (table.width ≡ REST) × (table.slots ≡ SLOTS) };
 
     ghost laws: { MemoryLaws table };
+
+    /// So it is a form with its laws, by the law `a_memory_table_is_a_form`.
+    ghost form_laws: { FormLaws (memory_form table) };
 }

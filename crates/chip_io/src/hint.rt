@@ -75,7 +75,7 @@ fn cells(m: &MemoryColumns) -> [Fe; 25]
 
 impl MemoryCore for HintCore {
     ghost use Rattle.std.specs.Prelude.{refl};
-    ghost use Rattle.chip_io.specs.lemmas.Hint.{hint_laws};
+    ghost use Rattle.chip_io.specs.lemmas.Hint.{hint_laws, hint_form_laws};
 
     const FLAGS: usize = 1;
 
@@ -94,6 +94,8 @@ impl MemoryCore for HintCore {
     ghost sizes = { (refl, refl, refl) };
 
     ghost laws = { hint_laws };
+
+    ghost form_laws = { hint_form_laws };
 
     fn owns(op: u8) -> bool {
         owns(&FORMS, op)

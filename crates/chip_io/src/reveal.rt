@@ -59,7 +59,7 @@ fn cells(m: &MemoryColumns) -> [Fe; 29]
 
 impl MemoryCore for RevealCore {
     ghost use Rattle.std.specs.Prelude.{refl};
-    ghost use Rattle.chip_io.specs.lemmas.Reveal.{reveal_laws};
+    ghost use Rattle.chip_io.specs.lemmas.Reveal.{reveal_laws, reveal_form_laws};
 
     const FLAGS: usize = 1;
 
@@ -78,6 +78,8 @@ impl MemoryCore for RevealCore {
     ghost sizes = { (refl, refl, refl) };
 
     ghost laws = { reveal_laws };
+
+    ghost form_laws = { reveal_form_laws };
 
     fn owns(op: u8) -> bool {
         owns(&FORMS, op)

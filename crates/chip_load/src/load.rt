@@ -84,7 +84,7 @@ fn cells(m: &MemoryColumns) -> [Fe; 31]
 
 impl MemoryCore for LoadCore {
     ghost use Rattle.std.specs.Prelude.{refl};
-    ghost use Rattle.chip_load.specs.lemmas.Load.{load_laws};
+    ghost use Rattle.chip_load.specs.lemmas.Load.{load_laws, load_form_laws};
 
     const FLAGS: usize = 13;
 
@@ -103,6 +103,8 @@ impl MemoryCore for LoadCore {
     ghost sizes = { (refl, refl, refl) };
 
     ghost laws = { load_laws };
+
+    ghost form_laws = { load_form_laws };
 
     fn owns(op: u8) -> bool {
         owns(&FORMS, op)

@@ -74,7 +74,7 @@ fn cells(m: &MemoryColumns) -> [Fe; 29]
 
 impl MemoryCore for StoreCore {
     ghost use Rattle.std.specs.Prelude.{refl};
-    ghost use Rattle.chip_store.specs.lemmas.Store.{store_laws};
+    ghost use Rattle.chip_store.specs.lemmas.Store.{store_laws, store_form_laws};
 
     const FLAGS: usize = 7;
 
@@ -93,6 +93,8 @@ impl MemoryCore for StoreCore {
     ghost sizes = { (refl, refl, refl) };
 
     ghost laws = { store_laws };
+
+    ghost form_laws = { store_form_laws };
 
     fn owns(op: u8) -> bool {
         owns(&FORMS, op)

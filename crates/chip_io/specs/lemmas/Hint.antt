@@ -30,16 +30,17 @@ use Rattle.gadget_limbs.proofs.RangeLaws.{ranges_good, good_ranges, ranges_count
 use Rattle.gadget_time.specs.Access.{access_at, gap_of, gap_cells}
 use Rattle.gadget_time.specs.Told.{touch_constraint, time_constraint, touch_lines, told_lines}
 use Rattle.gadget_time.specs.Form.{Columns, columns_by, form_constraints, form_sheet, owns_of, told_by}
-use Rattle.gadget_time.specs.FormLaws.{IsOther}
+use Rattle.gadget_time.specs.FormLaws.{FormLaws, IsOther}
 use Rattle.gadget_time.specs.lemmas.Access.{bytes_of, filled_access, pointer}
 use Rattle.gadget_time.specs.lemmas.Meant.{olds_of, as_many, means_by, recorded}
 use Rattle.adapter_mem.specs.declared.memory.MemoryColumns.{MemoryColumns}
 use Rattle.adapter_mem.specs.Forms.{form_at}
 use Rattle.adapter_mem.specs.Memory.{memory_form, memory_numbers, address_filled, memory_cells}
 use Rattle.adapter_mem.specs.MemoryLaws.{IsMemory, MemoryAt, MemoryTells, MemoryPlaced, MemoryFills, MemoryLaws, block_filled}
-use Rattle.adapter_mem.specs.lemmas.Address.{fits, filled_is}
-use Rattle.adapter_mem.specs.lemmas.Forms.{are_good_forms, is_good_form, good_forms, placed_by, each_shift, has}
-use Rattle.adapter_mem.specs.lemmas.Writes.{block_access, filled_block, cells_below}
+use Rattle.adapter_mem.proofs.AddressLemmas.{fits, filled_is}
+use Rattle.adapter_mem.proofs.FormLemmas.{are_good_forms, is_good_form, good_forms, placed_by, each_shift, has}
+use Rattle.adapter_mem.proofs.MemoryIsForm.{memory_table_form}
+use Rattle.adapter_mem.proofs.WriteSteps.{block_access, filled_block, cells_below}
 use Rattle.chip_io.specs.Hint.{hint_forms, hint_read, hint_table, hint_filled}
 
 owned_is : (op : ℕ) → owns_of (memory_form hint_table) op ≡ true → op ≡ HINT
@@ -226,6 +227,9 @@ hint_laws = record {
   tells = tells;
   fills = fills;
 }
+
+pub hint_form_laws : FormLaws (memory_form hint_table)
+hint_form_laws = memory_table_form hint_table hint_laws
 
 -- ---- hints
 

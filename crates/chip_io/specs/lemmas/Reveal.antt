@@ -27,10 +27,10 @@ use Rattle.adapter_mem.specs.declared.memory.MemoryColumns.{MemoryColumns}
 use Rattle.adapter_mem.specs.Forms.{form_at}
 use Rattle.adapter_mem.specs.Memory.{memory_form, memory_numbers, address_filled, memory_filled, memory_cells, write_touches}
 use Rattle.adapter_mem.specs.MemoryLaws.{IsMemory, MemoryAt, MemoryTells, MemoryPlaced, MemoryFills, MemoryLaws, block_filled}
-use Rattle.adapter_mem.specs.lemmas.Address.{fits, filled_is}
-use Rattle.adapter_mem.specs.lemmas.Forms.{are_good_forms, is_good_form, good_forms, placed_by, each_shift, has}
-use Rattle.adapter_mem.specs.lemmas.Form.{memory_table_form}
-use Rattle.adapter_mem.specs.lemmas.Writes.{write_meaning, write_means, three, three_words, three_gaps, write_filled, cells_below}
+use Rattle.adapter_mem.proofs.AddressLemmas.{fits, filled_is}
+use Rattle.adapter_mem.proofs.FormLemmas.{are_good_forms, is_good_form, good_forms, placed_by, each_shift, has}
+use Rattle.adapter_mem.proofs.MemoryIsForm.{memory_table_form}
+use Rattle.adapter_mem.proofs.WriteSteps.{write_meaning, write_means, three, three_words, three_gaps, write_filled, cells_below}
 use Rattle.chip_io.specs.Reveal.{reveal_forms, reveal_table, reveal_filled}
 
 owned_is : (op : ℕ) → owns_of (memory_form reveal_table) op ≡ true → op ≡ REVEAL

@@ -35,14 +35,14 @@ use Rattle.adapter_mem.specs.declared.memory.MemoryColumns.{MemoryColumns}
 use Rattle.adapter_mem.specs.Forms.{form_at, signed_by}
 use Rattle.adapter_mem.specs.Memory.{memory_form, memory_numbers, address_filled, place_filled, memory_filled, memory_cells, read_touches}
 use Rattle.adapter_mem.specs.MemoryLaws.{IsForm, MemoryAt, MemoryTells, MemoryPlaced, MemoryFills, MemoryLaws, flags_filled, block_filled}
-use Rattle.adapter_mem.specs.lemmas.Address.{filled_is}
+use Rattle.adapter_mem.proofs.AddressLemmas.{filled_is}
 use Rattle.adapter_mem.specs.Select.{top_by, sign_of}
 use Rattle.adapter_mem.specs.SelectLaws.{Extends, AreBytes, SignFilled}
-use Rattle.adapter_mem.specs.lemmas.Forms.{signed_none, at_form, placed_by, each_shift, has, good_forms, are_good_forms, is_good_form}
-use Rattle.adapter_mem.specs.lemmas.Form.{memory_table_form}
-use Rattle.adapter_mem.specs.lemmas.Reads.{read_accesses, second_word, read_filled}
-use Rattle.adapter_mem.specs.lemmas.Select.{loads_are_read, signs_are_filled}
-use Rattle.adapter_mem.specs.lemmas.Writes.{three_gaps, cells_below}
+use Rattle.adapter_mem.proofs.FormLemmas.{signed_none, at_form, placed_by, each_shift, has, good_forms, are_good_forms, is_good_form}
+use Rattle.adapter_mem.proofs.MemoryIsForm.{memory_table_form}
+use Rattle.adapter_mem.proofs.ReadSteps.{read_accesses, second_word, read_filled}
+use Rattle.adapter_mem.proofs.SelectLemmas.{loads_are_read, signs_are_filled}
+use Rattle.adapter_mem.proofs.WriteSteps.{three_gaps, cells_below}
 use Rattle.chip_load.specs.Load.{load_forms, load_new, load_table, load_filled}
 use Rattle.chip_load.specs.lemmas.Means.{apart_load, many_places, is_memory, loaded, load_means}
 

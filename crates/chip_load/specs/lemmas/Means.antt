@@ -10,8 +10,8 @@ use Rattle.vm_isa.specs.Means.{address, block_address, in_block, bars_first, bar
 use Rattle.vm_isa.specs.Opcodes.{is_load, is_store}
 use Rattle.vm_isa.specs.Results.{width_of, extended, number_in}
 use Rattle.adapter_mem.specs.MemoryLaws.{IsMemory}
-use Rattle.adapter_mem.specs.lemmas.Address.{Apart, apart, fits}
-use Rattle.adapter_mem.specs.lemmas.Reads.{read_meaning, reads_mean, third_count}
+use Rattle.adapter_mem.proofs.AddressLemmas.{Apart, apart, fits}
+use Rattle.adapter_mem.proofs.ReadSteps.{read_meaning, reads_mean, third_count}
 
 pub apart_load : (op : ℕ) → is_load op ≡ true → Apart op
 apart_load op h = apart op (rw h refl)

@@ -30,12 +30,12 @@ use Rattle.adapter_mem.specs.declared.memory.MemoryColumns.{MemoryColumns}
 use Rattle.adapter_mem.specs.Forms.{form_at}
 use Rattle.adapter_mem.specs.Memory.{memory_form, memory_numbers, address_filled, place_filled, memory_filled, memory_cells, write_touches}
 use Rattle.adapter_mem.specs.MemoryLaws.{IsForm, IsMemory, MemoryAt, MemoryTells, MemoryPlaced, MemoryFills, MemoryLaws, flags_filled, block_filled}
-use Rattle.adapter_mem.specs.lemmas.Address.{Apart, apart, fits, filled_is}
+use Rattle.adapter_mem.proofs.AddressLemmas.{Apart, apart, fits, filled_is}
 use Rattle.adapter_mem.specs.SelectLaws.{AreBytes}
-use Rattle.adapter_mem.specs.lemmas.Forms.{at_form, placed_by, each_shift, has, good_forms, are_good_forms, is_good_form}
-use Rattle.adapter_mem.specs.lemmas.Form.{memory_table_form}
-use Rattle.adapter_mem.specs.lemmas.Select.{stores_are_laid}
-use Rattle.adapter_mem.specs.lemmas.Writes.{write_meaning, write_means, three, three_words, three_gaps, write_filled, cells_below}
+use Rattle.adapter_mem.proofs.FormLemmas.{at_form, placed_by, each_shift, has, good_forms, are_good_forms, is_good_form}
+use Rattle.adapter_mem.proofs.MemoryIsForm.{memory_table_form}
+use Rattle.adapter_mem.proofs.SelectLemmas.{stores_are_laid}
+use Rattle.adapter_mem.proofs.WriteSteps.{write_meaning, write_means, three, three_words, three_gaps, write_filled, cells_below}
 use Rattle.chip_store.specs.Store.{store_forms, store_new, store_table, store_filled}
 
 good : are_good_forms store_forms ≡ true

@@ -1,4 +1,4 @@
-use Rattle.adapter_mem.specs.lemmas.Form.{memory_table_form}
+use Rattle.adapter_mem.proofs.MemoryIsForm.{memory_table_form}
 use Rattle.adapter_mem.proofs.laws.a_memory_table_is_a_form.Goals as goal
 
 pub returns : goal.returns

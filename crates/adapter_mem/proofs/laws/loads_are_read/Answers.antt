@@ -1,4 +1,4 @@
-use Rattle.adapter_mem.specs.lemmas.Select.{loads_are_read}
+use Rattle.adapter_mem.proofs.SelectLemmas.{loads_are_read}
 use Rattle.adapter_mem.proofs.laws.loads_are_read.Goals as goal
 
 pub returns : goal.returns

@@ -1,4 +1,4 @@
-use Rattle.adapter_mem.specs.lemmas.Select.{signs_are_filled}
+use Rattle.adapter_mem.proofs.SelectLemmas.{signs_are_filled}
 use Rattle.adapter_mem.proofs.laws.signs_are_filled.Goals as goal
 
 pub returns : goal.returns

@@ -1,4 +1,4 @@
-use Rattle.adapter_mem.specs.lemmas.Select.{stores_are_laid}
+use Rattle.adapter_mem.proofs.SelectLemmas.{stores_are_laid}
 use Rattle.adapter_mem.proofs.laws.stores_are_laid.Goals as goal
 
 pub returns : goal.returns

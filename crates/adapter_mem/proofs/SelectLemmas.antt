@@ -21,7 +21,7 @@ use Rattle.adapter_mem.specs.Forms.{access_form, form_at, by_form, signed_by}
 use Rattle.adapter_mem.specs.MemoryLaws.{IsForm}
 use Rattle.adapter_mem.specs.Select.{read_of, top_of, top_by, fill_of, fills_by, loaded_limb, loaded_word, sign_of, stored_of, stored_limb, stored_word}
 use Rattle.adapter_mem.specs.SelectLaws.{Extends, IsSelected, AreBytes, SignFilled}
-use Rattle.adapter_mem.specs.lemmas.Forms.{selects, signed_is, at_form}
+use Rattle.adapter_mem.proofs.FormLemmas.{selects, signed_is, at_form}
 
 -- ---- one limb of a loaded word
 

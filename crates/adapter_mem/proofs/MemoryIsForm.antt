@@ -41,9 +41,9 @@ use Rattle.adapter_mem.specs.declared.forms.AccessForm.{AccessForm}
 use Rattle.adapter_mem.specs.Forms.{form_at, opcodes_of, shift_by}
 use Rattle.adapter_mem.specs.Memory.{MemoryTable, memory_form, memory_numbers, pointer_of, address_constraints, address_lines, address_filled, place_filled, no_memory}
 use Rattle.adapter_mem.specs.MemoryLaws.{MemoryLaws, IsAddress, MemoryAt, MemoryTells, MemoryPlaced, flags_filled, block_filled}
-use Rattle.adapter_mem.specs.lemmas.Address.{address_is, filled_is, low_where_it_fits, in_word, halves_of}
-use Rattle.adapter_mem.specs.lemmas.Forms.{map_at, length_map, shift_is, shift_4, at_form, form_aligned, by_4}
-use Rattle.adapter_mem.specs.lemmas.PointerLaws.{pointer_law, pointer_holds, pointer_is}
+use Rattle.adapter_mem.proofs.AddressLemmas.{address_is, filled_is, low_where_it_fits, in_word, halves_of}
+use Rattle.adapter_mem.proofs.FormLemmas.{map_at, length_map, shift_is, shift_4, at_form, form_aligned, by_4}
+use Rattle.adapter_mem.proofs.PointerLaws.{pointer_law, pointer_holds, pointer_is}
 
 -- the program tuple read as an instruction
 record IsRow (at op : ℕ) (m : MemoryColumns ℕ) (i : VmInstr) : Type 0 where

@@ -21,7 +21,7 @@ use Rattle.gadget_time.specs.Told.{MadeByAll, made, gap_filled}
 use Rattle.gadget_time.specs.lemmas.Access.{filled_access}
 use Rattle.gadget_time.specs.lemmas.Meant.{olds_of, means_by, recorded}
 use Rattle.adapter_mem.specs.Memory.{read_touches, memory_filled}
-use Rattle.adapter_mem.specs.lemmas.Writes.{block_access, filled_block, three_gaps, gaps_below}
+use Rattle.adapter_mem.proofs.WriteSteps.{block_access, filled_block, three_gaps, gaps_below}
 
 -- ---- the meaning
 
