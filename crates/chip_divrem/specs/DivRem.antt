@@ -7,6 +7,7 @@ use Rattle.vm_isa.specs.Opcodes.{DIV, DIVU, REM, REMU}
 use Rattle.air_core.specs.Flags.{sum_from, opcode_place}
 use Rattle.air_core.specs.Ring.{Ring, field, cell}
 use Rattle.gadget_limbs.specs.Ranges.{range_lines}
+use Rattle.gadget_products.specs.Carry.{carry_lines}
 use Rattle.gadget_products.specs.Divide.{division_carries, division_top}
 use Rattle.gadget_products.specs.Laws.{word_in}
 use Rattle.gadget_divide.specs.Divided.{Divided, divided_of, operand_constraints, result_constraints, divided_lookups, divided_filled}
@@ -48,7 +49,7 @@ divrem_constraints o valid gate c left right =
 unfoldable pub divrem_lookups : {A E : Type 0} → Ring A E → A → A → Divided A → Limbs A → Limbs A → List E
 divrem_lookups o valid gate c left right =
     divided_lookups o valid gate c left right
-    ++ (range_lines o valid (o.number 11) (division_carries o c.dividend c.divisor c.quotient c.remainder)
+    ++ (carry_lines o valid (division_carries o c.dividend c.divisor c.quotient c.remainder)
     ++ range_lines o valid (o.number 8) (list_of c.quotient ++ list_of c.remainder))
 
 abbrev pub divrem_parts : {A E : Type 0} → Ring A E → CoreParts A E

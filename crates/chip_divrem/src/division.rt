@@ -12,7 +12,7 @@ ghost use Rattle.chip_divrem.specs.DivRem.{divrem_constraints, divrem_lookups};
 use air_core::{EventSink, OutOfMemory, first, first_nonzero};
 use gadget_divide::{Divided, emit_divided, operands_broken, results_broken};
 use gadget_limbs::emit_ranges;
-use gadget_products::{Division, both};
+use gadget_products::{Division, both, emit_carries};
 use vm_field::{Fe, Limbs};
 
 /// How many constraints there are.
@@ -63,6 +63,6 @@ pub fn emit_division<S: EventSink>(
 {
     let c = Divided::read(own);
     emit_divided(valid, gate, own, left, right, sink)?;
-    emit_ranges(valid, Fe::of_u16(11), &division(own).carries, sink)?;
+    emit_carries(valid, &division(own).carries, sink)?;
     emit_ranges(valid, Fe::of_u16(8), &both(c.quotient, c.remainder), sink)
 }

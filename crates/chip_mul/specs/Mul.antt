@@ -14,6 +14,7 @@ use Rattle.air_core.specs.Ring.{Ring, field, cell}
 use Rattle.gadget_limbs.specs.Lookup.{choose}
 use Rattle.gadget_limbs.specs.Ranges.{range_lines}
 use Rattle.gadget_limbs.specs.Sign.{sign_constraints, sign_looked_up}
+use Rattle.gadget_products.specs.Carry.{carry_lines}
 use Rattle.gadget_products.specs.Multiply.{product_carries}
 use Rattle.gadget_products.specs.Laws.{extended_word, word_in}
 use Rattle.adapter_regs.specs.Core.{Core, CoreParts}
@@ -56,7 +57,7 @@ unfoldable pub mul_lookups : {A E : Type 0} → Ring A E → A → A → A → P
 mul_lookups o valid first second c left right =
     (o.event XOR Send first (sign_looked_up o c.left_sign left.x3) ∷ [])
     ++ ((o.event XOR Send second (sign_looked_up o c.right_sign right.x3) ∷ [])
-    ++ (range_lines o valid (o.number 11) (product_carries o c.left_sign c.right_sign left right c.low c.high)
+    ++ (carry_lines o valid (product_carries o c.left_sign c.right_sign left right c.low c.high)
     ++ range_lines o valid (o.number 8) (list_of c.low ++ list_of c.high)))
 
 abbrev pub mul_parts : {A E : Type 0} → Ring A E → CoreParts A E

@@ -19,7 +19,7 @@ mod tests;
 use adapter_regs::{RegsChip, RegsCore};
 use air_core::{EventSink, OutOfMemory, bus, emit_sent, first, first_nonzero, flag_sum};
 use gadget_limbs::{choose, emit_ranges, sign_constraints, sign_looked_up};
-use gadget_products::{both, product_carries, word_of};
+use gadget_products::{both, emit_carries, product_carries, word_of};
 use vm_field::{Fe, Limbs};
 use vm_isa::opcode;
 use vm_word::limbs;
@@ -127,7 +127,7 @@ fn emit_products<S: EventSink>(
         sink,
     )?;
     let carries = product_carries(c.left_sign, c.right_sign, left, right, c.low, c.high);
-    emit_ranges(valid, Fe::of_u16(11), &carries, sink)?;
+    emit_carries(valid, &carries, sink)?;
     emit_ranges(valid, Fe::of_u16(8), &both(c.low, c.high), sink)
 }
 

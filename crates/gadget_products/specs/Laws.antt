@@ -1,19 +1,19 @@
 -- What carries that are looked up say, and which carries are.
-use Rattle.std.specs.Prelude.{◌≡◌, ℕ, ◌+◌, ◌-◌, ◌*◌, ◌%◌, ◌^◌, ◌<◌, ◌≤◌, ◌↔◌, Bool, List, length}
+use Rattle.std.specs.Prelude.{◌≡◌, ◌≢◌, ℕ, ◌+◌, ◌-◌, ◌*◌, ◌%◌, ◌^◌, ◌<◌, ◌≤◌, ◌↔◌, Bool, List, length}
 use Rattle.std.specs.Int.{from_bool}
 use Rattle.vm_field.specs.declared.limbs.Limbs.{Limbs}
 use Rattle.vm_field.specs.Limbs.{list_of}
 use Rattle.vm_word.specs.Word.{word_of_limbs}
 use Rattle.vm_word.specs.Arithmetic.{negated_if, is_negative}
 use Rattle.air_core.specs.Sheet.{AllZero}
-use Rattle.air_core.specs.Lookups.{IsXorRow}
+use Rattle.air_core.specs.Lookups.{GoodEvent}
 use Rattle.gadget_limbs.specs.Sign.{sign_looked_up, negative_constraints}
 use Rattle.gadget_products.specs.Multiply.{product_carries}
 use Rattle.gadget_products.specs.Divide.{division_carries, division_top}
 use Rattle.std.specs.List.{AllByRecursion}
 use Rattle.vm_isa.specs.Words.{IsBytes}
 use Rattle.gadget_limbs.specs.Number.{number_of}
-use Rattle.gadget_products.specs.Carry.{carries, last_carry}
+use Rattle.gadget_products.specs.Carry.{carries, last_carry, carry_lines}
 use Rattle.air_core.specs.Ring.{field}
 
 -- sums of at most eight products of bytes, or less
@@ -22,6 +22,10 @@ AreSums sums = AllByRecursion (λ s. s ≤ 520200) sums
 
 abbrev pub Below11 : List ℕ → Type 0
 Below11 ks = AllByRecursion (λ k. k < 2048) ks
+
+-- what is looked up of carries stands in the range table exactly where they are below 2^11
+abbrev pub CarriesAreLookedUp : Type 0
+CarriesAreLookedUp = (count : ℕ) (ks : List ℕ) → count ≢ 0 → AllByRecursion (λ e. e.count ≢ 0 → GoodEvent e) (carry_lines field count ks) ↔ Below11 ks
 
 pub record SumsAndLimbs (k : ℕ) (sums limbs : List ℕ) : Type 0 where
   pub long : length sums ≡ length limbs

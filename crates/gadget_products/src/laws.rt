@@ -1,6 +1,11 @@
 //! What the carries of products say. Each law is what a function with an empty body ensures.
 
-ghost use Rattle.gadget_products.specs.Laws.{CarriesMakeOneNumber, OneNumberHasCarries, ProductsHaveCarries, DivisionsHaveCarries};
+ghost use Rattle.gadget_products.specs.Laws.{CarriesAreLookedUp, CarriesMakeOneNumber, OneNumberHasCarries, ProductsHaveCarries, DivisionsHaveCarries};
+
+/// Law: what is looked up of carries stands in the range table exactly where they are below 2^11.
+pub fn carries_are_looked_up()
+    ensures { CarriesAreLookedUp }
+{}
 
 /// Law: carries that are looked up below 2^11 make sums of products and limbs one number.
 pub fn carries_make_one_number()

@@ -9,7 +9,7 @@ mod product;
 #[cfg(test)]
 mod tests;
 
-pub use carry::carries;
+pub use carry::{carries, emit_carries};
 pub use divide::Division;
 pub use multiply::{both, product_carries, word_of};
 pub use product::{place, places};
