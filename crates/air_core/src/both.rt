@@ -89,6 +89,7 @@ impl<A: Extension, B: Extension> Extension for Both<A, B> {
         self.first.is_private(bus) || self.second.is_private(bus)
     }
 
+    #[inline(always)]
     fn rows_for(&self, done: &StepRecord, table: u32) -> u32 {
         let count = self.first.tables();
         if table < count {
@@ -107,6 +108,7 @@ impl<A: Extension, B: Extension> Extension for Both<A, B> {
         }
     }
 
+    #[inline(always)]
     fn events<S: EventSink>(
         &self,
         table: u32,
@@ -130,6 +132,7 @@ impl<A: Extension, B: Extension> Extension for Both<A, B> {
         }
     }
 
+    #[inline(always)]
     fn take_row<S: EventSink>(
         &self,
         table: u32,
@@ -144,6 +147,7 @@ impl<A: Extension, B: Extension> Extension for Both<A, B> {
         }
     }
 
+    #[inline(always)]
     fn fill(&self, done: &StepRecord, table: u32, place: u32, row: &mut [Fe]) {
         let count = self.first.tables();
         if table < count {

@@ -75,7 +75,8 @@ fn cells(m: &MemoryColumns) -> [Fe; 25]
 
 impl MemoryCore for HintCore {
     ghost use Rattle.std.specs.Prelude.{refl};
-    ghost use Rattle.chip_io.specs.lemmas.Hint.{hint_laws, hint_form_laws};
+    ghost use Rattle.chip_io.specs.lemmas.Hint.{hint_laws};
+    ghost use Rattle.adapter_mem.proofs.MemoryIsForm.{memory_table_form};
 
     const FLAGS: usize = 1;
 
@@ -95,7 +96,7 @@ impl MemoryCore for HintCore {
 
     ghost laws = { hint_laws };
 
-    ghost form_laws = { hint_form_laws };
+    ghost form_laws = { memory_table_form hint_table hint_laws };
 
     fn owns(op: u8) -> bool {
         owns(&FORMS, op)

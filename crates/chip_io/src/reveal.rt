@@ -59,7 +59,8 @@ fn cells(m: &MemoryColumns) -> [Fe; 29]
 
 impl MemoryCore for RevealCore {
     ghost use Rattle.std.specs.Prelude.{refl};
-    ghost use Rattle.chip_io.specs.lemmas.Reveal.{reveal_laws, reveal_form_laws};
+    ghost use Rattle.chip_io.specs.lemmas.Reveal.{reveal_laws};
+    ghost use Rattle.adapter_mem.proofs.MemoryIsForm.{memory_table_form};
 
     const FLAGS: usize = 1;
 
@@ -79,7 +80,7 @@ impl MemoryCore for RevealCore {
 
     ghost laws = { reveal_laws };
 
-    ghost form_laws = { reveal_form_laws };
+    ghost form_laws = { memory_table_form reveal_table reveal_laws };
 
     fn owns(op: u8) -> bool {
         owns(&FORMS, op)

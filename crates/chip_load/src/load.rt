@@ -84,7 +84,8 @@ fn cells(m: &MemoryColumns) -> [Fe; 31]
 
 impl MemoryCore for LoadCore {
     ghost use Rattle.std.specs.Prelude.{refl};
-    ghost use Rattle.chip_load.specs.lemmas.Load.{load_laws, load_form_laws};
+    ghost use Rattle.chip_load.specs.lemmas.Load.{load_laws};
+    ghost use Rattle.adapter_mem.proofs.MemoryIsForm.{memory_table_form};
 
     const FLAGS: usize = 13;
 
@@ -104,7 +105,7 @@ impl MemoryCore for LoadCore {
 
     ghost laws = { load_laws };
 
-    ghost form_laws = { load_form_laws };
+    ghost form_laws = { memory_table_form load_table load_laws };
 
     fn owns(op: u8) -> bool {
         owns(&FORMS, op)

@@ -74,7 +74,8 @@ fn cells(m: &MemoryColumns) -> [Fe; 29]
 
 impl MemoryCore for StoreCore {
     ghost use Rattle.std.specs.Prelude.{refl};
-    ghost use Rattle.chip_store.specs.lemmas.Store.{store_laws, store_form_laws};
+    ghost use Rattle.chip_store.specs.lemmas.Store.{store_laws};
+    ghost use Rattle.adapter_mem.proofs.MemoryIsForm.{memory_table_form};
 
     const FLAGS: usize = 7;
 
@@ -94,7 +95,7 @@ impl MemoryCore for StoreCore {
 
     ghost laws = { store_laws };
 
-    ghost form_laws = { store_form_laws };
+    ghost form_laws = { memory_table_form store_table store_laws };
 
     fn owns(op: u8) -> bool {
         owns(&FORMS, op)

@@ -1,5 +1,6 @@
 -- The events of the memory bus.
 use Rattle.std.specs.Prelude.{List, [], ◌∷◌, ◌++◌, flat_map}
+use Rattle.air_core.specs.declared.bus.TheConstants.{MEMORY}
 use Rattle.air_core.specs.declared.event.Event.{Event}
 use Rattle.air_core.specs.Sheet.{sent, received}
 use Rattle.vm_trace.specs.declared.page.Touched.{Touched}
@@ -8,11 +9,11 @@ use Rattle.offline_memory.specs.Pages.{page_blocks}
 
 -- an access receives the cell that it meets and sends the cell that it leaves
 abbrev pub access_events : Access → List Event
-access_events a = received 2 1 (cell_tuple (met_cell a)) ∷ sent 2 1 (cell_tuple (left_cell a)) ∷ []
+access_events a = received MEMORY 1 (cell_tuple (met_cell a)) ∷ sent MEMORY 1 (cell_tuple (left_cell a)) ∷ []
 
 -- a block's first cell is sent, its last cell received
 abbrev pub block_events : Block → List Event
-block_events b = sent 2 1 (cell_tuple (first_cell b)) ∷ received 2 1 (cell_tuple (last_cell b)) ∷ []
+block_events b = sent MEMORY 1 (cell_tuple (first_cell b)) ∷ received MEMORY 1 (cell_tuple (last_cell b)) ∷ []
 
 -- the events of a page, block by block
 abbrev pub boundary_events : Touched → List Event

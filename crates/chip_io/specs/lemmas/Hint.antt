@@ -30,7 +30,7 @@ use Rattle.gadget_limbs.proofs.RangeLaws.{ranges_good, good_ranges, ranges_count
 use Rattle.gadget_time.specs.Access.{access_at, gap_of, gap_cells}
 use Rattle.gadget_time.specs.Told.{touch_constraint, time_constraint, touch_lines, told_lines}
 use Rattle.gadget_time.specs.Form.{Columns, columns_by, form_constraints, form_sheet, owns_of, told_by}
-use Rattle.gadget_time.specs.FormLaws.{FormLaws, IsOther}
+use Rattle.gadget_time.specs.FormLaws.{IsOther}
 use Rattle.gadget_time.specs.lemmas.Access.{bytes_of, filled_access, pointer}
 use Rattle.gadget_time.specs.lemmas.Meant.{olds_of, as_many, means_by, recorded}
 use Rattle.adapter_mem.specs.declared.memory.MemoryColumns.{MemoryColumns}
@@ -39,7 +39,6 @@ use Rattle.adapter_mem.specs.Memory.{memory_form, memory_numbers, address_filled
 use Rattle.adapter_mem.specs.MemoryLaws.{IsMemory, MemoryAt, MemoryTells, MemoryPlaced, MemoryFills, MemoryLaws, block_filled}
 use Rattle.adapter_mem.proofs.AddressLemmas.{fits, filled_is}
 use Rattle.adapter_mem.proofs.FormLemmas.{are_good_forms, is_good_form, good_forms, placed_by, each_shift, has}
-use Rattle.adapter_mem.proofs.MemoryIsForm.{memory_table_form}
 use Rattle.adapter_mem.proofs.WriteSteps.{block_access, filled_block, cells_below}
 use Rattle.chip_io.specs.Hint.{hint_forms, hint_read, hint_table, hint_filled}
 
@@ -227,9 +226,6 @@ hint_laws = record {
   tells = tells;
   fills = fills;
 }
-
-pub hint_form_laws : FormLaws (memory_form hint_table)
-hint_form_laws = memory_table_form hint_table hint_laws
 
 -- ---- hints
 

@@ -20,16 +20,15 @@ use Rattle.air_core.specs.lemmas.OneHot.{of_owned}
 use Rattle.gadget_time.specs.Access.{access_at}
 use Rattle.gadget_time.specs.Told.{touch_constraint, time_constraint, MadeByAll}
 use Rattle.gadget_time.specs.Form.{owns_of}
-use Rattle.gadget_time.specs.FormLaws.{FormLaws, NoHints}
+use Rattle.gadget_time.specs.FormLaws.{NoHints}
 use Rattle.gadget_time.specs.lemmas.Access.{bytes_of, pointer}
 use Rattle.gadget_time.specs.lemmas.Meant.{olds_of, as_many}
 use Rattle.adapter_mem.specs.declared.memory.MemoryColumns.{MemoryColumns}
 use Rattle.adapter_mem.specs.Forms.{form_at}
 use Rattle.adapter_mem.specs.Memory.{memory_form, memory_numbers, address_filled, memory_filled, memory_cells, write_touches}
-use Rattle.adapter_mem.specs.MemoryLaws.{IsMemory, MemoryAt, MemoryTells, MemoryPlaced, MemoryFills, MemoryLaws, block_filled}
+use Rattle.adapter_mem.specs.MemoryLaws.{IsMemory, MemoryAt, MemoryPlaced, MemoryFills, MemoryLaws, block_filled}
 use Rattle.adapter_mem.proofs.AddressLemmas.{fits, filled_is}
 use Rattle.adapter_mem.proofs.FormLemmas.{are_good_forms, is_good_form, good_forms, placed_by, each_shift, has}
-use Rattle.adapter_mem.proofs.MemoryIsForm.{memory_table_form}
 use Rattle.adapter_mem.proofs.WriteSteps.{write_meaning, write_means, three, three_words, three_gaps, write_filled, cells_below}
 use Rattle.chip_io.specs.Reveal.{reveal_forms, reveal_table, reveal_filled}
 
@@ -78,21 +77,6 @@ reveal_means i b c x given op low aligned =
 only : (k : ℕ) → k < 1 → (form_at reveal_forms k).shift ≡ 0
 only zero h = refl
 only (suc k) h = absurd (omega arith)
-
-tells : (k block : ℕ) (flags : List ℕ) (m : MemoryColumns ℕ) (i : VmInstr) → MemoryAt reveal_table k block flags m i → MemoryTells reveal_table block flags m i
-tells k block flags m i a = record {
-  counts = (lit≤ tt, (lit≤ tt, (lit≤ tt, tt)));
-  slots = (lit< tt, (lit< tt, (lit< tt, tt)));
-  rising = (lit≤ tt, lit< tt, (lit≤ tt, lit< tt, (lit≤ tt, lit< tt, tt)));
-  new_bytes = λ b. (b, λ c. (c, λ x. (c, tt)));
-  means = λ old.
-      let op = owned_is i.op a.owned in
-      let at = a.address_is old.0 in
-      let here : block ≡ address i (word_of_limbs (list_of m.base)) = omega (arith, at.block_is, at.shift, only k a.below) in
-      let e0 = pointer m.rd i.rd a.rd a.in_range.rd in
-      let e1 = pointer m.rs1 i.rs1 a.rs1 a.in_range.rs1 in
-      ([], reveal_means i (list_of m.base) (list_of m.middle) (list_of m.last) [] op at.below at.aligned ∙ rw (e0, e1, here) refl);
-}
 
 -- ---- a record
 
@@ -177,12 +161,21 @@ reveal_laws = record {
   back = back;
   address = λ done. record { base = refl; imm = refl; low = refl; high = refl };
   place = λ op shift own four aligned. placed_by reveal_forms op shift (subst (λ (k : ℕ). each_shift reveal_forms k 4 ≡ true) (sym (owned_is op own)) covers) four aligned;
-  tells = tells;
+  tells = λ k block flags m i a. record {
+    counts = (lit≤ tt, (lit≤ tt, (lit≤ tt, tt)));
+    slots = (lit< tt, (lit< tt, (lit< tt, tt)));
+    rising = (lit≤ tt, lit< tt, (lit≤ tt, lit< tt, (lit≤ tt, lit< tt, tt)));
+    new_bytes = λ b. (b, λ c. (c, λ x. (c, tt)));
+    means = λ old.
+        let op = owned_is i.op a.owned in
+        let at = a.address_is old.0 in
+        let here : block ≡ address i (word_of_limbs (list_of m.base)) = omega (arith, at.block_is, at.shift, only k a.below) in
+        let e0 = pointer m.rd i.rd a.rd a.in_range.rd in
+        let e1 = pointer m.rs1 i.rs1 a.rs1 a.in_range.rs1 in
+        ([], reveal_means i (list_of m.base) (list_of m.middle) (list_of m.last) [] op at.below at.aligned ∙ rw (e0, e1, here) refl);
+  };
   fills = fills;
 }
-
-pub reveal_form_laws : FormLaws (memory_form reveal_table)
-reveal_form_laws = memory_table_form reveal_table reveal_laws
 
 pub reveal_no_hints : NoHints (memory_form reveal_table)
 reveal_no_hints = ((refl, refl), tt)

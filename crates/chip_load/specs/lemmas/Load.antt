@@ -28,7 +28,7 @@ use Rattle.gadget_limbs.proofs.SignLaws.{sign_says, sign_meets}
 use Rattle.gadget_time.specs.Access.{access_at}
 use Rattle.gadget_time.specs.Told.{touch_constraint, time_constraint, MadeByAll}
 use Rattle.gadget_time.specs.Form.{owns_of}
-use Rattle.gadget_time.specs.FormLaws.{FormLaws, NoHints}
+use Rattle.gadget_time.specs.FormLaws.{NoHints}
 use Rattle.gadget_time.specs.lemmas.Access.{bytes_of, pointer}
 use Rattle.gadget_time.specs.lemmas.Meant.{olds_of, as_many}
 use Rattle.adapter_mem.specs.declared.memory.MemoryColumns.{MemoryColumns}
@@ -39,7 +39,6 @@ use Rattle.adapter_mem.proofs.AddressLemmas.{filled_is}
 use Rattle.adapter_mem.specs.Select.{top_by, sign_of}
 use Rattle.adapter_mem.specs.SelectLaws.{Extends, AreBytes, SignFilled}
 use Rattle.adapter_mem.proofs.FormLemmas.{signed_none, at_form, placed_by, each_shift, has, good_forms, are_good_forms, is_good_form}
-use Rattle.adapter_mem.proofs.MemoryIsForm.{memory_table_form}
 use Rattle.adapter_mem.proofs.ReadSteps.{read_accesses, second_word, read_filled}
 use Rattle.adapter_mem.proofs.SelectLemmas.{loads_are_read, signs_are_filled}
 use Rattle.adapter_mem.proofs.WriteSteps.{three_gaps, cells_below}
@@ -247,9 +246,6 @@ load_laws = record {
   tells = tells;
   fills = fills;
 }
-
-pub load_form_laws : FormLaws (memory_form load_table)
-load_form_laws = memory_table_form load_table load_laws
 
 pub load_no_hints : NoHints (memory_form load_table)
 load_no_hints = ((refl, refl), ((refl, refl), ((refl, refl), ((refl, refl), ((refl, refl), ((refl, refl), ((refl, refl), ((refl, refl), ((refl, refl), ((refl, refl), ((refl, refl), ((refl, refl), ((refl, refl), tt)))))))))))))

@@ -4,6 +4,7 @@ use Rattle.std.specs.List.{AllByRecursion}
 use Rattle.vm_field.specs.Field.{field_add}
 use Rattle.sha_words.specs.Sha256.{round, round_constant, rounds, schedule, next_word}
 use Rattle.sha_words.proofs.ScheduleLemmas.{slice_index-schedule_next}
+use Rattle.air_core.specs.declared.bus.TheConstants.{SHA_CONSTANTS, FIRST_PRIVATE}
 use Rattle.air_core.specs.declared.event.Event.{Event}
 use Rattle.air_core.specs.declared.event.Side.TheVariants.{Send, Receive}
 use Rattle.air_core.specs.Balance.{total, amount_at, is_at}
@@ -52,9 +53,9 @@ module _ (state block : List ℕ) where
 
   module _ (time : ℕ) (all : List Event) where
     abbrev Link : Event → Type 0
-    Link = Linked (IsStage state words) 6 time all
+    Link = Linked (IsStage state words) FIRST_PRIVATE time all
 
-    pub off_link : (e : Event) → e.bus ≢ 6 → Link e
+    pub off_link : (e : Event) → e.bus ≢ FIRST_PRIVATE → Link e
     off_link e off = record { comes = λ level body bus side some tuple. absurd (off bus) }
 
     pub received_link : (e : Event) → e.side ≡ Receive → Link e
@@ -70,8 +71,8 @@ module _ (state block : List ℕ) where
         all_append P (sum_lines field r.flag (a_words field r) r.new_a) _ (sum_links r.flag (a_words field r) r.new_a)
         (all_append P (sum_lines field r.flag (e_words field r) r.new_e) _ (sum_links r.flag (e_words field r) r.new_e) (sum_links r.flag (w_words field r) r.new_w))
 
-    passed : (r : RoundRow ℕ) (level : ℕ) (body : List ℕ) → RoundReads r → 0 < total Receive 6 (stage_tuple r.time r.round (before_of field r)) all
-        → stage_tuple r.time (field_add r.round 1) (after_of field r) ≡ time ∷ level ∷ body → Passed (IsStage state words) 6 time all level body
+    passed : (r : RoundRow ℕ) (level : ℕ) (body : List ℕ) → RoundReads r → 0 < total Receive FIRST_PRIVATE (stage_tuple r.time r.round (before_of field r)) all
+        → stage_tuple r.time (field_add r.round 1) (after_of field r) ≡ time ∷ level ∷ body → Passed (IsStage state words) FIRST_PRIVATE time all level body
     passed r level body reads some e =
         let at : r.time ≡ time = cc in
         let up : field_add r.round 1 ≡ level = cc in
@@ -81,11 +82,11 @@ module _ (state block : List ℕ) where
           before = r.round;
           from = halves_cells ((before_of field r));
           is = level_is;
-          received = subst (λ (t : ℕ). 0 < total Receive 6 (t ∷ r.round ∷ halves_cells ((before_of field r))) all) at some;
+          received = subst (λ (t : ℕ). 0 < total Receive FIRST_PRIVATE (t ∷ r.round ∷ halves_cells ((before_of field r))) all) at some;
           keeps = λ before. subst (IsStage state words level) are (keeps r level reads level_is before);
         }
 
-    stage_links : (r : RoundRow ℕ) → (r.flag ≢ 0 → RoundReads r) → (r.flag ≢ 0 → 0 < total Receive 6 (stage_tuple r.time r.round (before_of field r)) all)
+    stage_links : (r : RoundRow ℕ) → (r.flag ≢ 0 → RoundReads r) → (r.flag ≢ 0 → 0 < total Receive FIRST_PRIVATE (stage_tuple r.time r.round (before_of field r)) all)
         → AllByRecursion (λ e. e.count ≢ 0 → Link e) (stage_lines field r)
     unfolding stage_lines
     stage_links r reads some = (
@@ -97,28 +98,28 @@ module _ (state block : List ℕ) where
     )
 
     -- the links of a row
-    row_links : (r : RoundRow ℕ) → (r.flag ≢ 0 → RoundReads r) → (r.flag ≢ 0 → 0 < total Receive 6 (stage_tuple r.time r.round (before_of field r)) all) → AllByRecursion Link (counted (round_lines field r))
+    row_links : (r : RoundRow ℕ) → (r.flag ≢ 0 → RoundReads r) → (r.flag ≢ 0 → 0 < total Receive FIRST_PRIVATE (stage_tuple r.time r.round (before_of field r)) all) → AllByRecursion Link (counted (round_lines field r))
     unfolding round_lines
     row_links r reads some =
         all_counted_some Link (sums_lines field r ++ stage_lines field r)
         (all_append (λ e. e.count ≢ 0 → Link e) (sums_lines field r) (stage_lines field r) (sums_links r) (stage_links r reads some))
 
 -- what a row that counts receives
-receives : (r : RoundRow ℕ) → r.flag ≢ 0 → 0 < total Receive 6 (stage_tuple r.time r.round (before_of field r)) (counted (round_lines field r))
+receives : (r : RoundRow ℕ) → r.flag ≢ 0 → 0 < total Receive FIRST_PRIVATE (stage_tuple r.time r.round (before_of field r)) (counted (round_lines field r))
 unfolding round_lines stage_lines
 receives r some =
     let tuple : List ℕ = stage_tuple r.time r.round (before_of field r) in
-    let constant : Event = sent 5 r.flag (r.round ∷ r.constant.lo ∷ r.constant.hi ∷ []) in
-    let taken : Event = received 6 r.flag tuple in
-    let given : Event = sent 6 r.flag (stage_tuple r.time (field_add r.round 1) (after_of field r)) in
-    let here : is_at Receive 6 tuple taken ≡ true = test_of_there Receive 6 tuple taken (record { bus_is = refl; side_is = refl; tuple_is = refl }) in
-    let counts : amount_at Receive 6 tuple taken ≡ r.flag = rw here refl in
+    let constant : Event = sent SHA_CONSTANTS r.flag (r.round ∷ r.constant.lo ∷ r.constant.hi ∷ []) in
+    let taken : Event = received FIRST_PRIVATE r.flag tuple in
+    let given : Event = sent FIRST_PRIVATE r.flag (stage_tuple r.time (field_add r.round 1) (after_of field r)) in
+    let here : is_at Receive FIRST_PRIVATE tuple taken ≡ true = test_of_there Receive FIRST_PRIVATE tuple taken (record { bus_is = refl; side_is = refl; tuple_is = refl }) in
+    let counts : amount_at Receive FIRST_PRIVATE tuple taken ≡ r.flag = rw here refl in
     omega (
       arith,
-      total-counted Receive 6 tuple (sums_lines field r ++ (constant ∷ taken ∷ given ∷ [])),
-      total-append Receive 6 tuple (sums_lines field r) (constant ∷ taken ∷ given ∷ []),
-      total-cons Receive 6 tuple constant (taken ∷ given ∷ []),
-      total-cons Receive 6 tuple taken (given ∷ []),
+      total-counted Receive FIRST_PRIVATE tuple (sums_lines field r ++ (constant ∷ taken ∷ given ∷ [])),
+      total-append Receive FIRST_PRIVATE tuple (sums_lines field r) (constant ∷ taken ∷ given ∷ []),
+      total-cons Receive FIRST_PRIVATE tuple constant (taken ∷ given ∷ []),
+      total-cons Receive FIRST_PRIVATE tuple taken (given ∷ []),
       counts,
     )
 
@@ -133,14 +134,14 @@ abbrev pub round_events : List ℕ → List Event
 round_events row = counted (round_lines field (round_row (slice_index row)))
 
 pub round_links : (state block : List ℕ) (time : ℕ) (all : List Event) (rows : List (List ℕ)) → AllByRecursion RoundGood rows
-    → ((tuple : List ℕ) → total Receive 6 tuple (flat_map round_events rows) ≤ total Receive 6 tuple all)
-    → AllByRecursion (Linked (IsStage state (schedule block 80)) 6 time all) (flat_map round_events rows)
+    → ((tuple : List ℕ) → total Receive FIRST_PRIVATE tuple (flat_map round_events rows) ≤ total Receive FIRST_PRIVATE tuple all)
+    → AllByRecursion (Linked (IsStage state (schedule block 80)) FIRST_PRIVATE time all) (flat_map round_events rows)
 round_links state block time all [] good part = tt
 round_links state block time all (row ∷ rows) good part =
     let r = round_row (slice_index row) in
     let g : RoundGood row = good.0 in
-    let more = λ (tuple : List ℕ). total-append Receive 6 tuple (round_events row) (flat_map round_events rows) in
-    all_append (Linked (IsStage state (schedule block 80)) 6 time all) (round_events row) (flat_map round_events rows)
+    let more = λ (tuple : List ℕ). total-append Receive FIRST_PRIVATE tuple (round_events row) (flat_map round_events rows) in
+    all_append (Linked (IsStage state (schedule block 80)) FIRST_PRIVATE time all) (round_events row) (flat_map round_events rows)
     (row_links state block time all r (λ some. round_reads row g.below g.zeros g.good some)
     (λ some. omega (arith, receives r some, more (stage_tuple r.time r.round (before_of field r)), part (stage_tuple r.time r.round (before_of field r)))))
     (round_links state block time all rows good.1 (λ tuple. omega (arith, more tuple, part tuple)))

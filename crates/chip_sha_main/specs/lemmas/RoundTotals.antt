@@ -3,6 +3,7 @@ use Rattle.std.proofs.Common.{◌≡◌, ◌≢◌, ℕ, zero, suc, ◌+◌, ◌
 use Rattle.std.specs.List.{AllByRecursion, range_with_len}
 use Rattle.vm_field.specs.Field.{field_add}
 use Rattle.sha_words.specs.Sha256.{round, round_constant, rounds, schedule}
+use Rattle.air_core.specs.declared.bus.TheConstants.{SHA_CONSTANTS, FIRST_PRIVATE}
 use Rattle.air_core.specs.declared.event.Event.{Event}
 use Rattle.air_core.specs.declared.event.Side.{Side}
 use Rattle.air_core.specs.declared.event.Side.TheVariants.{Send, Receive}
@@ -32,29 +33,29 @@ stage_at time state words t = time ∷ t ∷ number_cells (stage_numbers (rounds
 abbrev pub here_at : List ℕ → (time : ℕ) (state words : List ℕ) → ℕ → ℕ
 here_at tuple time state words t = once (same_tuple (stage_at time state words t) tuple)
 
-sum_off : (count : ℕ) (ws : List (Halves ℕ)) (out : Halves ℕ) → AllByRecursion (λ e. e.bus ≢ 6) (sum_lines field count ws out)
+sum_off : (count : ℕ) (ws : List (Halves ℕ)) (out : Halves ℕ) → AllByRecursion (λ e. e.bus ≢ FIRST_PRIVATE) (sum_lines field count ws out)
 unfolding sum_lines
 sum_off count ws out = (omega arith, (omega arith, (omega arith, (omega arith, tt))))
 
-sums_off : (r : RoundRow ℕ) → AllByRecursion (λ e. e.bus ≢ 6) (sums_lines field r)
+sums_off : (r : RoundRow ℕ) → AllByRecursion (λ e. e.bus ≢ FIRST_PRIVATE) (sums_lines field r)
 sums_off r =
-    all_append (λ (e : Event). e.bus ≢ 6) (sum_lines field r.flag (a_words field r) r.new_a) _ (sum_off r.flag (a_words field r) r.new_a)
-    (all_append (λ (e : Event). e.bus ≢ 6) (sum_lines field r.flag (e_words field r) r.new_e) (sum_lines field r.flag (w_words field r) r.new_w) (sum_off r.flag (e_words field r) r.new_e) (sum_off r.flag (w_words field r) r.new_w))
+    all_append (λ (e : Event). e.bus ≢ FIRST_PRIVATE) (sum_lines field r.flag (a_words field r) r.new_a) _ (sum_off r.flag (a_words field r) r.new_a)
+    (all_append (λ (e : Event). e.bus ≢ FIRST_PRIVATE) (sum_lines field r.flag (e_words field r) r.new_e) (sum_lines field r.flag (w_words field r) r.new_w) (sum_off r.flag (e_words field r) r.new_e) (sum_off r.flag (w_words field r) r.new_w))
 
 -- the sums of a row are those of its two stages
-stages_only : (side : Side) (tuple : List ℕ) (r : RoundRow ℕ) → total side 6 tuple (counted (round_lines field r))
-    ≡ total side 6 tuple (received 6 r.flag (stage_tuple r.time r.round (before_of field r)) ∷ sent 6 r.flag (stage_tuple r.time (field_add r.round 1) (after_of field r)) ∷ [])
+stages_only : (side : Side) (tuple : List ℕ) (r : RoundRow ℕ) → total side FIRST_PRIVATE tuple (counted (round_lines field r))
+    ≡ total side FIRST_PRIVATE tuple (received FIRST_PRIVATE r.flag (stage_tuple r.time r.round (before_of field r)) ∷ sent FIRST_PRIVATE r.flag (stage_tuple r.time (field_add r.round 1) (after_of field r)) ∷ [])
 unfolding round_lines stage_lines
 stages_only side tuple r =
-    let constant : Event = sent 5 r.flag (r.round ∷ r.constant.lo ∷ r.constant.hi ∷ []) in
-    let two : List Event = received 6 r.flag (stage_tuple r.time r.round (before_of field r)) ∷ sent 6 r.flag (stage_tuple r.time (field_add r.round 1) (after_of field r)) ∷ [] in
+    let constant : Event = sent SHA_CONSTANTS r.flag (r.round ∷ r.constant.lo ∷ r.constant.hi ∷ []) in
+    let two : List Event = received FIRST_PRIVATE r.flag (stage_tuple r.time r.round (before_of field r)) ∷ sent FIRST_PRIVATE r.flag (stage_tuple r.time (field_add r.round 1) (after_of field r)) ∷ [] in
     omega (
       arith,
-      total-counted side 6 tuple (sums_lines field r ++ (constant ∷ two)),
-      total-append side 6 tuple (sums_lines field r) (constant ∷ two),
-      total_elsewhere side 6 tuple (sums_lines field r) (sums_off r),
-      total-append side 6 tuple (constant ∷ []) two,
-      total_elsewhere side 6 tuple (constant ∷ []) (omega arith, tt),
+      total-counted side FIRST_PRIVATE tuple (sums_lines field r ++ (constant ∷ two)),
+      total-append side FIRST_PRIVATE tuple (sums_lines field r) (constant ∷ two),
+      total_elsewhere side FIRST_PRIVATE tuple (sums_lines field r) (sums_off r),
+      total-append side FIRST_PRIVATE tuple (constant ∷ []) two,
+      total_elsewhere side FIRST_PRIVATE tuple (constant ∷ []) (omega arith, tt),
     )
 
 module _ (time : ℕ) (state block : List ℕ) (s : (j : ℕ) → slice_index state j < 2 ^ 32) (b : (i : ℕ) → slice_index block i < 256) where
@@ -81,27 +82,27 @@ module _ (time : ℕ) (state block : List ℕ) (s : (j : ℕ) → slice_index st
   filled_flag : (t : ℕ) → (round_row (slice_index (row_at time state words t))) ≡ round_filled time t (rounds state words t) words
   filled_flag t = round_back time t (rounds state words t) words
 
-  two_events : (side : Side) (tuple : List ℕ) (t : ℕ) → t < 64 → total side 6 tuple (round_events (row_at time state words t))
-      ≡ total side 6 tuple (received 6 1 (stage_at time state words t) ∷ sent 6 1 (stage_at time state words (t + 1)) ∷ [])
+  two_events : (side : Side) (tuple : List ℕ) (t : ℕ) → t < 64 → total side FIRST_PRIVATE tuple (round_events (row_at time state words t))
+      ≡ total side FIRST_PRIVATE tuple (received FIRST_PRIVATE 1 (stage_at time state words t) ∷ sent FIRST_PRIVATE 1 (stage_at time state words (t + 1)) ∷ [])
   unfolding round_filled
   two_events side tuple t low =
       let r = round_filled time t (rounds state words t) words in
       let taken = taken_is t in
       let given = given_is t low in
-      ap (λ (x : RoundRow ℕ). total side 6 tuple (counted (round_lines field x))) (filled_flag t) ∙ stages_only side tuple r
-      ∙ (λ i. total side 6 tuple (received 6 1 (taken i) ∷ sent 6 1 (given i) ∷ []))
+      ap (λ (x : RoundRow ℕ). total side FIRST_PRIVATE tuple (counted (round_lines field x))) (filled_flag t) ∙ stages_only side tuple r
+      ∙ (λ i. total side FIRST_PRIVATE tuple (received FIRST_PRIVATE 1 (taken i) ∷ sent FIRST_PRIVATE 1 (given i) ∷ []))
 
   -- sums over rows a, .., a + n - 1
   sum_over : (ℕ → ℕ) → ℕ → ℕ → ℕ
   sum_over f a zero = 0
   sum_over f a (suc n) = f a + sum_over f (a + 1) n
 
-  rows_sum : (side : Side) (tuple : List ℕ) (f : ℕ → ℕ) (a n : ℕ) → ((t : ℕ) → t < 64 → total side 6 tuple (round_events (row_at time state words t)) ≡ f t) → a + n ≤ 64
-      → total side 6 tuple (flat_map round_events (map (row_at time state words) (range_with_len a n))) ≡ sum_over f a n
+  rows_sum : (side : Side) (tuple : List ℕ) (f : ℕ → ℕ) (a n : ℕ) → ((t : ℕ) → t < 64 → total side FIRST_PRIVATE tuple (round_events (row_at time state words t)) ≡ f t) → a + n ≤ 64
+      → total side FIRST_PRIVATE tuple (flat_map round_events (map (row_at time state words) (range_with_len a n))) ≡ sum_over f a n
   unfolding sum_over
   rows_sum side tuple f a zero each few = refl
   rows_sum side tuple f a (suc n) each few =
-      omega (arith, total-append side 6 tuple (round_events (row_at time state words a)) (flat_map round_events (map (row_at time state words) (range_with_len (a + 1) n))), each a (omega arith), rows_sum side tuple f (a + 1) n each (omega arith))
+      omega (arith, total-append side FIRST_PRIVATE tuple (round_events (row_at time state words a)) (flat_map round_events (map (row_at time state words) (range_with_len (a + 1) n))), each a (omega arith), rows_sum side tuple f (a + 1) n each (omega arith))
 
   moved_on : (f : ℕ → ℕ) (a n : ℕ) → f a + sum_over (λ t. f (t + 1)) a n ≡ sum_over f a n + f (a + n)
   unfolding sum_over
@@ -111,10 +112,10 @@ module _ (time : ℕ) (state block : List ℕ) (s : (j : ℕ) → slice_index st
       omega (arith, moved_on f (a + 1) n, ap f e)
 
   -- All rows: what they send and stage 0 are what they receive and stage 64.
-  pub rows_even : (tuple : List ℕ) → here_at tuple time state words 0 + total Send 6 tuple (flat_map round_events (map (row_at time state words) (range_with_len 0 64)))
-      ≡ total Receive 6 tuple (flat_map round_events (map (row_at time state words) (range_with_len 0 64))) + here_at tuple time state words 64
+  pub rows_even : (tuple : List ℕ) → here_at tuple time state words 0 + total Send FIRST_PRIVATE tuple (flat_map round_events (map (row_at time state words) (range_with_len 0 64)))
+      ≡ total Receive FIRST_PRIVATE tuple (flat_map round_events (map (row_at time state words) (range_with_len 0 64))) + here_at tuple time state words 64
   rows_even tuple =
       let f : ℕ → ℕ = here_at tuple time state words in
-      let sends = rows_sum Send tuple (λ t. f (t + 1)) 0 64 (λ t low. two_events Send tuple t low ∙ total_send-exchange 6 tuple (stage_at time state words t) (stage_at time state words (t + 1))) (omega arith) in
-      let takes = rows_sum Receive tuple f 0 64 (λ t low. two_events Receive tuple t low ∙ total_receive-exchange 6 tuple (stage_at time state words t) (stage_at time state words (t + 1))) (omega arith) in
+      let sends = rows_sum Send tuple (λ t. f (t + 1)) 0 64 (λ t low. two_events Send tuple t low ∙ total_send-exchange FIRST_PRIVATE tuple (stage_at time state words t) (stage_at time state words (t + 1))) (omega arith) in
+      let takes = rows_sum Receive tuple f 0 64 (λ t low. two_events Receive tuple t low ∙ total_receive-exchange FIRST_PRIVATE tuple (stage_at time state words t) (stage_at time state words (t + 1))) (omega arith) in
       ap (λ (n : ℕ). f 0 + n) sends ∙ moved_on f 0 64 ∙ ap (λ (n : ℕ). n + f 64) (sym takes)

@@ -5,6 +5,7 @@ use Rattle.vm_word.specs.Word.{word_of_limbs}
 use Rattle.sha_words.specs.Sha256.{rounds, schedule}
 use Rattle.vm_isa.specs.declared.record.StepRecord.{StepRecord}
 use Rattle.vm_isa.specs.Means.{Fillable}
+use Rattle.air_core.specs.declared.bus.TheConstants.{FIRST_PRIVATE}
 use Rattle.air_core.specs.declared.event.Side.TheVariants.{Send, Receive}
 use Rattle.air_core.specs.Balance.{total}
 use Rattle.air_core.specs.Ring.{field}
@@ -49,12 +50,12 @@ module _ (hi : ℕ) (top : hi ≤ 13) (done : StepRecord) (f : Fillable (16 + hi
       (halves_append (map halves_filled last) (map halves_filled (rest hi top done f op)) last (rest hi top done f op) (halves_all last (last_all hi top done f op)) (halves_all (rest hi top done f op) (rest_all hi top done f op)))
       ∙ ap (λ (ns : List ℕ). number_cells (ns ++ rest hi top done f op)) (eight last (long_last hi top done f op))
 
-  stages : chain_lines field Q ≡ sent 6 1 (stage_at done.time (state_of done) (schedule (block_of done) 80) 0) ∷ received 6 1 (stage_at done.time (state_of done) (schedule (block_of done) 80) 64) ∷ []
+  stages : chain_lines field Q ≡ sent FIRST_PRIVATE 1 (stage_at done.time (state_of done) (schedule (block_of done) 80) 0) ∷ received FIRST_PRIVATE 1 (stage_at done.time (state_of done) (schedule (block_of done) 80) 64) ∷ []
   unfolding chain_lines rounds last_of
   stages =
       let s = start in
       let e = end in
-      λ i. sent 6 1 (done.time ∷ 0 ∷ s i) ∷ received 6 1 (done.time ∷ 64 ∷ e i) ∷ []
+      λ i. sent FIRST_PRIVATE 1 (done.time ∷ 0 ∷ s i) ∷ received FIRST_PRIVATE 1 (done.time ∷ 64 ∷ e i) ∷ []
 
   abbrev row : List ℕ
   row = row_of_columns (filled_columns main_form done)
@@ -70,12 +71,12 @@ module _ (hi : ℕ) (top : hi ≤ 13) (done : StepRecord) (f : Fillable (16 + hi
   pub main_is : main_of field (columns main_form row) ≡ Q
   main_is = ap (λ (c : Columns ℕ). main_of field c) columns_back ∙ row_is hi top done f op
 
-  pub main_sends : (tuple : List ℕ) → total Send 6 tuple (row_events (main_sheet hi) row) ≡ here_at tuple done.time (state_of done) (schedule (block_of done) 80) 0
+  pub main_sends : (tuple : List ℕ) → total Send FIRST_PRIVATE tuple (row_events (main_sheet hi) row) ≡ here_at tuple done.time (state_of done) (schedule (block_of done) 80) 0
   main_sends tuple =
-      chain_only Send tuple hi (columns main_form row) ∙ ap (λ (m : MainRow ℕ). total Send 6 tuple (chain_lines field m)) main_is ∙ ap (total Send 6 tuple) stages
-      ∙ total_send-given_first 6 tuple (stage_at done.time (state_of done) (schedule (block_of done) 80) 64) (stage_at done.time (state_of done) (schedule (block_of done) 80) 0)
+      chain_only Send tuple hi (columns main_form row) ∙ ap (λ (m : MainRow ℕ). total Send FIRST_PRIVATE tuple (chain_lines field m)) main_is ∙ ap (total Send FIRST_PRIVATE tuple) stages
+      ∙ total_send-given_first FIRST_PRIVATE tuple (stage_at done.time (state_of done) (schedule (block_of done) 80) 64) (stage_at done.time (state_of done) (schedule (block_of done) 80) 0)
 
-  pub main_takes : (tuple : List ℕ) → total Receive 6 tuple (row_events (main_sheet hi) row) ≡ here_at tuple done.time (state_of done) (schedule (block_of done) 80) 64
+  pub main_takes : (tuple : List ℕ) → total Receive FIRST_PRIVATE tuple (row_events (main_sheet hi) row) ≡ here_at tuple done.time (state_of done) (schedule (block_of done) 80) 64
   main_takes tuple =
-      chain_only Receive tuple hi (columns main_form row) ∙ ap (λ (m : MainRow ℕ). total Receive 6 tuple (chain_lines field m)) main_is ∙ ap (total Receive 6 tuple) stages
-      ∙ total_receive-given_first 6 tuple (stage_at done.time (state_of done) (schedule (block_of done) 80) 64) (stage_at done.time (state_of done) (schedule (block_of done) 80) 0)
+      chain_only Receive tuple hi (columns main_form row) ∙ ap (λ (m : MainRow ℕ). total Receive FIRST_PRIVATE tuple (chain_lines field m)) main_is ∙ ap (total Receive FIRST_PRIVATE tuple) stages
+      ∙ total_receive-given_first FIRST_PRIVATE tuple (stage_at done.time (state_of done) (schedule (block_of done) 80) 64) (stage_at done.time (state_of done) (schedule (block_of done) 80) 0)

@@ -23,7 +23,7 @@ use Rattle.air_core.specs.lemmas.OneHot.{of_owned, or_true}
 use Rattle.gadget_time.specs.Access.{access_at}
 use Rattle.gadget_time.specs.Told.{touch_constraint, time_constraint, MadeByAll}
 use Rattle.gadget_time.specs.Form.{owns_of}
-use Rattle.gadget_time.specs.FormLaws.{FormLaws, NoHints}
+use Rattle.gadget_time.specs.FormLaws.{NoHints}
 use Rattle.gadget_time.specs.lemmas.Access.{bytes_of, pointer}
 use Rattle.gadget_time.specs.lemmas.Meant.{olds_of, as_many}
 use Rattle.adapter_mem.specs.declared.memory.MemoryColumns.{MemoryColumns}
@@ -33,7 +33,6 @@ use Rattle.adapter_mem.specs.MemoryLaws.{IsForm, IsMemory, MemoryAt, MemoryTells
 use Rattle.adapter_mem.proofs.AddressLemmas.{Apart, apart, fits, filled_is}
 use Rattle.adapter_mem.specs.SelectLaws.{AreBytes}
 use Rattle.adapter_mem.proofs.FormLemmas.{at_form, placed_by, each_shift, has, good_forms, are_good_forms, is_good_form}
-use Rattle.adapter_mem.proofs.MemoryIsForm.{memory_table_form}
 use Rattle.adapter_mem.proofs.SelectLemmas.{stores_are_laid}
 use Rattle.adapter_mem.proofs.WriteSteps.{write_meaning, write_means, three, three_words, three_gaps, write_filled, cells_below}
 use Rattle.chip_store.specs.Store.{store_forms, store_new, store_table, store_filled}
@@ -209,9 +208,6 @@ store_laws = record {
   tells = tells;
   fills = fills;
 }
-
-pub store_form_laws : FormLaws (memory_form store_table)
-store_form_laws = memory_table_form store_table store_laws
 
 pub store_no_hints : NoHints (memory_form store_table)
 store_no_hints = ((refl, refl), ((refl, refl), ((refl, refl), ((refl, refl), ((refl, refl), ((refl, refl), ((refl, refl), tt)))))))
